@@ -1,0 +1,27 @@
+-- Words between single bytes, and numbers written without leading zeros.
+use Rattle.std.specs.Prelude.{ℕ, Bool, false, List, [], Option, Some, None, length, nat_le, nat_lt, ◌&&◌, ◌==◌, if◌then◌else◌, slice_index}
+use Rattle.std.specs.List.{slice_split, list_all}
+use Rattle.std.specs.Char.{is_ascii_digit}
+use Rattle.std.specs.Str.Parse.{digits_value}
+
+-- the words of a text, between single bytes of that kind
+abbrev pub words_at : ℕ → List ℕ → List (List ℕ)
+words_at at text = slice_split (λ b. b == at) text
+
+-- the words of what is left, where there is something left
+abbrev pub words_left : ℕ → Option (List ℕ) → List (List ℕ)
+words_left at None = []
+words_left at (Some text) = words_at at text
+
+-- decimal digits, one or more, with no zero in front of others
+unfoldable pub is_number : List ℕ → Bool
+is_number word =
+    if length word == 0 then false else (if slice_index word 0 == 48 && nat_lt 1 (length word) then false else list_all is_ascii_digit word)
+
+-- the number of at most most that digits write
+unfoldable pub value_to : ℕ → List ℕ → Option ℕ
+value_to most word = if nat_le (digits_value 10 word) most then Some (digits_value 10 word) else None
+
+-- the number of at most most that a word writes
+unfoldable pub number_to : ℕ → List ℕ → Option ℕ
+number_to most word = if is_number word then value_to most word else None
