@@ -1,0 +1,5 @@
+use Rattle.lg_model.proofs.Limits.{limits}
+use Rattle.lg_model.proofs.laws.counters_stay_low.Goals as goal
+
+pub returns : goal.returns
+returns c = limits

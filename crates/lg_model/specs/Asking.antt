@@ -1,0 +1,38 @@
+-- A network whose pickers are told by a relation.
+use Rattle.std.specs.Prelude.{◌≡◌, ℕ, ◌<◌, Bool, true, false, List, slice_set, slice_get, Option, Some, None, IfSome, IfNone}
+use Rattle.lg_model.specs.Scenario.{Scenario}
+use Rattle.lg_model.specs.Trace.{Meeting}
+use Rattle.lg_model.specs.Carrying.{Carry, Offer, hops_left, is_ask, offer_at, with_choice}
+
+-- What a picker may answer: the picker before, the hops left, the offer, the answer, the picker after.
+abbrev pub Picks : Type 0 → Type 1
+Picks S = S → ℕ → Offer → Option ℕ → S → Type 0
+
+-- The law of every picker: the index is below the width, and none is given only where more than one hop is left.
+pub record IsLawful (hops : ℕ) (offer : Offer) (answer : Option ℕ) : Type 0 where
+  pub index : IfSome answer (λ j. j < offer.width)
+  pub none : IfNone answer (1 < hops)
+
+-- The pickers of the switches, and what is carried so far.
+pub record Asking (S : Type 0) : Type 0 where
+  pub pickers : List S
+  pub carried : List Carry
+
+abbrev pub asking : {S : Type 0} → List S → List Carry → Asking S
+asking ps cs = record { pickers = ps; carried = cs }
+
+-- The picker of the switch answers, and the packet carries what it says.
+pub record IsAsked {S : Type 0} (picks : Picks S) (w : Scenario) (m : Meeting) (old new : Asking S) : Type 0 where
+  pub before : S
+  pub after : S
+  pub answer : Option ℕ
+  pub its : slice_get old.pickers m.switch_at ≡ Some before
+  pub says : picks before (hops_left m) (offer_at w old.carried m) answer after
+  pub lawful : IsLawful (hops_left m) (offer_at w old.carried m) answer
+  pub pickers : new.pickers ≡ slice_set old.pickers m.switch_at after
+  pub carried : new.carried ≡ with_choice w m old.carried answer
+
+-- What a meeting does to pickers and carried columns: an ask, or nothing.
+pub record IsPick {S : Type 0} (picks : Picks S) (w : Scenario) (m : Meeting) (old new : Asking S) : Type 0 where
+  pub asks : is_ask w old.carried m ≡ true → IsAsked picks w m old new
+  pub passes : is_ask w old.carried m ≡ false → new ≡ old

@@ -1,0 +1,14 @@
+pub mod Placing
+pub mod Scenario
+pub mod Trace
+pub mod Sketch
+pub mod Bound
+pub mod Carrying
+pub mod Arriving
+pub mod Twin
+pub mod Asking
+pub mod Runs
+pub mod Answer
+pub mod Report
+pub mod Settled
+pub mod Worked
