@@ -4,3 +4,9 @@ pub mod Bounding
 pub mod Limits
 pub mod Answering
 pub mod Tracing
+pub mod Running
+pub mod Twinning
+pub mod Choosing
+pub mod Allowing
+pub mod Arrivals
+pub mod Cargo

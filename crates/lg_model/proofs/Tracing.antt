@@ -1,14 +1,17 @@
 -- What a switch has seen after some of the steps.
-use Rattle.std.specs.Prelude.{◌≡◌, ◌≢◌, ℕ, zero, suc, ◌+◌, ◌-◌, ◌<◌, ◌≤◌, Bool, true, false, cond, ◌==◌, ◌&&◌, List, [], ◌∷◌, ◌++◌, map, length, take, drop, fold, replicate, Option, None, Some, slice_index_or, count_by, All}
+use Rattle.std.specs.Prelude.{◌≡◌, ◌≢◌, ℕ, zero, suc, ◌+◌, ◌-◌, ◌*◌, ◌<◌, ◌≤◌, Bool, true, false, cond, ◌==◌, ◌&&◌, List, [], ◌∷◌, ◌++◌, map, length, take, drop, fold, replicate, Option, None, Some, slice_index_or, count_by, All}
 use Rattle.std.specs.List.{flat_map, filter_map, enumerate_from}
 use Rattle.std.proofs.Common.{refl, sym, ap, ◌∙◌, subst, arith, zero-add, add-one, append-nil, take_all, append_assoc, inl, inr, take-take, add-zero}
 use Rattle.std.proofs.lemmas.List.{take_more, length-take, take-append-drop}
 use Rattle.std.proofs.lemmas.List.Elements.{filter_map-append, All-nil, All-append, All-replicate, All-weaker, All-map, All-head, All-tail}
 use Rattle.std.proofs.lemmas.Grind.{flat_map-append}
+use Rattle.std.proofs.lemmas.List.{length-append, length-map, length-replicate}
+use Rattle.std.proofs.lemmas.List.FromFn.{length-enumerate_from}
+use Rattle.std.proofs.lemmas.List.Sums.{sum_by-cons}
 use Rattle.std.proofs.lemmas.List.Sums.{fold-append, sum_by_more, sum_by-take-le}
 use Rattle.std.proofs.lemmas.Bool.Decides.{eqb_tells}
 use Rattle.lg_model.specs.Placing.{Shape}
-use Rattle.lg_model.specs.Scenario.{Scenario, is_end_of, ended}
+use Rattle.lg_model.specs.Scenario.{Scenario, is_end_of, ended, burst_of, packet_count}
 use Rattle.lg_model.specs.declared.scenario.Flow.{Flow}
 use Rattle.lg_model.specs.declared.scenario.Step.{Step}
 use Rattle.lg_model.specs.declared.scenario.Step.TheVariants as steps
@@ -137,3 +140,31 @@ frozen_is w s e n h past =
     (λ p low same. let up : ended w s n ≤ ended w s p.step_at = ended_rises w s n p.step_at low in let no : ⊥ = omega arith in no) (packets_from w n) (packets_after w n)) in
     ap (table_of w.shape) (ap (seen_in w s e) all ∙ filter_map-append (observed w s e) (meetings_in ps) rest
     ∙ ap (λ xs. seen_in w s e (meetings_in ps) ++ xs) (seen_none w s e rest after) ∙ append-nil (seen_in w s e (meetings_in ps)))
+
+-- the packets are as many as the steps send
+packets_count : (flows : List Flow) (n : ℕ) (xs : List Step) → length (flat_map (packets_of flows) (enumerate_from n xs)) ≡ packet_count xs
+packets_count flows n [] = refl
+packets_count flows n (x ∷ xs) =
+    length-append (packets_of flows (n, x)) (flat_map (packets_of flows) (enumerate_from (n + 1) xs))
+    ∙ ap (λ k. length (packets_of flows (n, x)) + k) (packets_count flows (n + 1) xs)
+    ∙ ap (λ k. k + packet_count xs) (one x) ∙ sym (sum_by-cons burst_of x xs)
+  where
+    one : (step : Step) → length (packets_of flows (n, step)) ≡ burst_of step
+    one (steps.Packet at size delays burst fate) = length-replicate burst (packet_of flows n at size delays fate)
+    one (steps.End s) = refl
+    one steps.EndAll = refl
+    one steps.Release = refl
+
+pub length_packets : (w : Scenario) → length (packets w) ≡ packet_count w.steps
+length_packets w = packets_count w.flows 0 w.steps
+
+-- and their meetings are no more than sixteen times as many
+pub few_meetings : (a : ℕ) (ps : List Packet) → All (λ (p : Packet). length p.flow.path ≤ 16) ps → length (meetings_on a ps) ≤ 16 * length ps
+few_meetings a [] h = omega arith
+few_meetings a (p ∷ ps) h =
+    let hops = take (reach p) p.flow.path in
+    let short : length p.flow.path ≤ 16 = All-head (λ (q : Packet). length q.flow.path ≤ 16) p ps h in
+    let rest : length (meetings_on (a + 1) ps) ≤ 16 * length ps = few_meetings (a + 1) ps (All-tail (λ (q : Packet). length q.flow.path ≤ 16) p ps h) in
+    let mine : length (meetings_of (a, p)) ≡ length hops = length-map (enumerate_from 0 hops) (meeting_of a p) ∙ length-enumerate_from 0 hops in
+    let all : length (meetings_on a (p ∷ ps)) ≡ length (meetings_of (a, p)) + length (meetings_on (a + 1) ps) = length-append (meetings_of (a, p)) (meetings_on (a + 1) ps) in
+    omega (arith, length-take (reach p) p.flow.path)

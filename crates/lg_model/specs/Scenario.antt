@@ -1,5 +1,5 @@
 -- A scenario: what is declared, what happens in order, and what is asked.
-use Rattle.std.specs.Prelude.{◌≡◌, ℕ, ◌<◌, ◌≤◌, List, length, All, slice_index_or, [], count_by, take, Bool, true, false, ◌==◌}
+use Rattle.std.specs.Prelude.{◌≡◌, ℕ, ◌<◌, ◌≤◌, List, length, All, slice_index_or, [], count_by, sum_by, take, Bool, true, false, ◌==◌}
 use Rattle.flow_key.specs.declared.key.FlowKey.{FlowKey}
 use Rattle.lg_model.specs.declared.scenario.HostLine.{HostLine}
 use Rattle.lg_model.specs.declared.scenario.Flow.{Flow}
@@ -9,7 +9,7 @@ use Rattle.lg_model.specs.declared.scenario.Fate.{Fate}
 use Rattle.lg_model.specs.declared.scenario.Fate.TheVariants as fates
 use Rattle.lg_model.specs.declared.scenario.Ask.{Ask}
 use Rattle.lg_model.specs.declared.scenario.Pick.{Pick}
-use Rattle.lg_model.specs.Placing.{Shape}
+use Rattle.lg_model.specs.Placing.{Shape, IsShape}
 
 -- Steps name flows and switches by their positions in these lists, flows name hosts and switches so. An ask names its
 -- switch by name.
@@ -54,3 +54,38 @@ burst_of (steps.Packet _ _ _ burst _) = burst
 burst_of (steps.End _) = 0
 burst_of steps.EndAll = 0
 burst_of steps.Release = 0
+
+-- How many packets a scenario sends.
+abbrev pub packet_count : List Step → ℕ
+packet_count steps = sum_by burst_of steps
+
+-- A flow ends at a host that is there and goes by 1 to 16 switches that are.
+pub record IsFlow (hosts switches : ℕ) (f : Flow) : Type 0 where
+  pub host : f.host_at < hosts
+  pub path : All (λ s. s < switches) f.path
+  pub some_hops : 1 ≤ length f.path
+  pub few_hops : length f.path ≤ 16
+
+-- A step speaks of what is there: its packets have a delay for each hop and reach no more hops than there are.
+abbrev pub IsStep : (switches : ℕ) → List Flow → Step → Type 0
+IsStep switches flows (steps.Packet at size delays burst fate) =
+    (at < length flows) × (length delays ≡ length (flow_at flows at).path) × (reached fate (length (flow_at flows at).path) ≤ length (flow_at flows at).path)
+IsStep switches flows (steps.End s) = s < switches
+IsStep switches flows steps.EndAll = Unit {0}
+IsStep switches flows steps.Release = Unit {0}
+
+-- An ask is about a flow that is there.
+abbrev pub IsAsk : List Flow → Ask → Type 0
+IsAsk flows q = q.flow_at < length flows
+
+-- The parts of a scenario fit each other, and none passes its limit: 64 hosts and switches, 1,000,000 packets, 65,535
+-- ends of each switch.
+pub record IsScenario (w : Scenario) : Type 0 where
+  pub shape : IsShape w.shape.rows w.shape.width
+  pub few_hosts : length w.hosts ≤ 64
+  pub few_switches : length w.switches ≤ 64
+  pub flows : All (IsFlow (length w.hosts) (length w.switches)) w.flows
+  pub steps : All (IsStep (length w.switches) w.flows) w.steps
+  pub asks : All (IsAsk w.flows) w.asks
+  pub few_packets : packet_count w.steps ≤ 1000000
+  pub few_ends : (s : ℕ) → s < length w.switches → count_by (is_end_of s) w.steps ≤ 65535
