@@ -71,6 +71,10 @@ number_again most n small le =
     let yes : leb n most ≡ true = le-leb n most le in
     rw (form, num.1, yes) refl
 
+pub spelled : (most : ℕ) (w : List ℕ) (r : Option ℕ) → most < 2 ^ 64 → r ≡ number_to most w → IfSome r (λ n. w ≡ decimal n)
+spelled most w None small e = tt
+spelled most w (Some n) small e = (number_is most w n small (sym e)).0
+
 -- ---- texts of digits, and lists of them
 
 digit_no : (c d : ℕ) → d < 48 → IsInRange 48 57 c → eqb c d ≡ false
@@ -133,6 +137,10 @@ address_takes w ns e =
     let text : w ≡ dotted (a.0.0 ∷ b.0.0 ∷ c.0.0 ∷ d.0.0 ∷ []) = sym (join_with_byte-slice_split 46 w) ∙ ap (join_with_byte 46) all in
     text ∙ ap dotted (some_is (a.0.0 ∷ b.0.0 ∷ c.0.0 ∷ d.0.0 ∷ []) ns z.2)
 
+pub address_spelled : (w : List ℕ) (r : Option (List ℕ)) → r ≡ address_of w → IfSome r (λ ns. w ≡ dotted ns)
+address_spelled w None e = tt
+address_spelled w (Some ns) e = address_takes w ns (sym e)
+
 pub address_word_takes : (ws : List (List ℕ)) (x : List ℕ × List (List ℕ)) → address_word ws ≡ Some x → ws ≡ dotted x.0 ∷ x.1
 unfolding address_word
 address_word_takes [] x e = absurd cc
@@ -180,7 +188,7 @@ pub word_again : (most n : ℕ) (ws : List (List ℕ)) → most < 2 ^ 64 → n �
 unfolding number_word
 word_again most n ws small le = rw (number_again most n small le) refl
 
-address_again : (ns : List ℕ) → IsAddress ns → address_of (dotted ns) ≡ Some ns
+pub address_again : (ns : List ℕ) → IsAddress ns → address_of (dotted ns) ≡ Some ns
 unfolding address_of
 address_again [] h = absurd (omega (arith, h.four))
 address_again (a ∷ []) h = absurd (omega (arith, h.four))
@@ -200,7 +208,7 @@ pub found : (text : List ℕ) (r : Option FlowKey) → r ≡ key_of text → IfS
 found text None e = tt
 found text (Some k) e = key_takes text k (sym e)
 
-dotted_free : (ns : List ℕ) → IsAddress ns → All (λ x. eqb x 32 ≡ false) (dotted ns)
+pub dotted_free : (ns : List ℕ) → IsAddress ns → All (λ x. eqb x 32 ≡ false) (dotted ns)
 dotted_free [] h = absurd (omega (arith, h.four))
 dotted_free (a ∷ []) h = absurd (omega (arith, h.four))
 dotted_free (a ∷ b ∷ []) h = absurd (omega (arith, h.four))

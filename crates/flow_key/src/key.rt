@@ -1,66 +1,35 @@
 //! The key of a flow.
 
-ghost use Rattle.std.specs.Prelude.{◌≡◌, ◌≤◌, ◌+◌, ◌++◌, ◌∷◌, [], ◌<◌, ◌^◌, List, ℕ, length, take, IfSome, IfNone};
+ghost use Rattle.std.specs.Prelude.{◌≡◌, ◌≤◌, take, IfSome, IfNone, Some};
 ghost use Rattle.std.specs.Option.{option_copied, option_map};
-ghost use Rattle.std.specs.Fmt.{decimal};
-ghost use Rattle.flow_key.specs.Words.{words_at, words_left};
-ghost use Rattle.flow_key.specs.KeyText.{number_word, no_more, address_of, address_word, key_words, key_of, key_text, key_bytes, dotted, Fits};
+ghost use Rattle.flow_key.specs.Words.{words_left};
+ghost use Rattle.flow_key.specs.KeyText.{address_word, key_words, key_of, key_text, key_bytes, Fits, IsAddress};
 
-use crate::words::{cut, number};
+use crate::printing::{put_address, put_octet, put_port, put_space};
+use crate::words::{address, cut, end_at, number_at};
 
+/// The key of a flow: every value of the five fields is a key, and two keys are the same where all five are.
+///
+/// A key has 13 bytes ([`to_bytes`](FlowKey::to_bytes), [`from_bytes`](FlowKey::from_bytes)) and one text
+/// ([`print`](FlowKey::print), [`parse`](FlowKey::parse)); two keys share neither.
 #[derive(Clone, Copy, Debug, PartialEq, Eq)]
 pub struct FlowKey {
+    /// The source address, `a.b.c.d` as `[a, b, c, d]`.
     pub src: [u8; 4],
+    /// The destination address, in the same order.
     pub dst: [u8; 4],
+    /// The number of the protocol.
     pub proto: u8,
+    /// The source port.
     pub sport: u16,
+    /// The destination port.
     pub dport: u16,
-}
-
-#[tactic(auto, unfolding(crate::specs::KeyText::number_word))]
-fn number_at(text: Option<&[u8]>, at: u8, most: u64) -> Option<(u64, Option<&[u8]>)>
-    ensures bound { IfSome result (λ x. x.0 ≤ most) }
-    ensures value { option_map (λ x. (x.0, words_left at (option_copied x.1))) result ≡ number_word most (words_left at (option_copied text.entry)) }
-{
-    match text {
-        None => None,
-        Some(text) => {
-            let (word, rest) = cut(text, at);
-            match number(word, most) {
-                None => None,
-                Some(n) => Some((n, rest)),
-            }
-        }
-    }
-}
-
-fn end_at(text: Option<&[u8]>, at: u8) -> Option<()>
-    ensures { result ≡ no_more (words_left at (option_copied text.entry)) }
-{
-    match text {
-        None => Some(()),
-        Some(text) => {
-            let (_, _) = cut(text, at);
-            None
-        }
-    }
-}
-
-#[tactic(auto, unfolding(crate::specs::KeyText::address_of))]
-fn address(word: &[u8]) -> Option<[u8; 4]>
-    ensures { result ≡ address_of word.now }
-{
-    let (a, rest) = number_at(Some(word), b'.', 255)?;
-    let (b, rest) = number_at(rest, b'.', 255)?;
-    let (c, rest) = number_at(rest, b'.', 255)?;
-    let (d, rest) = number_at(rest, b'.', 255)?;
-    end_at(rest, b'.')?;
-    Some([a as u8, b as u8, c as u8, d as u8])
 }
 
 #[tactic(auto, unfolding(crate::specs::KeyText::address_word))]
 fn address_at(text: Option<&[u8]>) -> Option<([u8; 4], Option<&[u8]>)>
-    ensures { option_map (λ x. (x.0, words_left 32 (option_copied x.1))) result ≡ address_word (words_left 32 (option_copied text.entry)) }
+    ensures value { option_map (λ x. (x.0, words_left 32 (option_copied x.1))) result ≡ address_word (words_left 32 (option_copied text.entry)) }
+    ensures bytes { IfSome result (λ x. IsAddress x.0) }
 {
     match text {
         None => None,
@@ -68,17 +37,18 @@ fn address_at(text: Option<&[u8]>) -> Option<([u8; 4], Option<&[u8]>)>
             let (word, rest) = cut(text, b' ');
             match address(word) {
                 None => None,
-                Some(ns) => Some((ns, rest)),
+                Some(bytes) => Some((bytes, rest)),
             }
         }
     }
 }
 
 impl FlowKey {
-    /// The key of five words at the front of a text, and what is left of it.
+    // The key of five words at the front of a text, and what is left of it.
     #[tactic(auto, unfolding(crate::specs::KeyText::key_words))]
-    pub fn of_words(text: Option<&[u8]>) -> Option<(FlowKey, Option<&[u8]>)>
-        ensures { option_map (λ x. (x.0, words_left 32 (option_copied x.1))) result ≡ key_words (words_left 32 (option_copied text.entry)) }
+    fn of_words(text: Option<&[u8]>) -> Option<(FlowKey, Option<&[u8]>)>
+        ensures value { option_map (λ x. (x.0, words_left 32 (option_copied x.1))) result ≡ key_words (words_left 32 (option_copied text.entry)) }
+        ensures fits { IfSome result (λ x. Fits x.0) }
     {
         let (src, rest) = address_at(text)?;
         let (dst, rest) = address_at(rest)?;
@@ -97,22 +67,41 @@ impl FlowKey {
 
     #[tactic(auto, unfolding(crate::specs::KeyText::key_of))]
     fn read(text: &[u8]) -> Option<FlowKey>
-        ensures { result ≡ key_of text.now }
+        ensures value { result ≡ key_of text.now }
+        ensures fits { IfSome result Fits }
     {
         let (key, rest) = FlowKey::of_words(Some(text))?;
         end_at(rest, b' ')?;
         Some(key)
     }
 
-    /// The key of the text; none where the text is no key's.
+    /// The key whose text this is: `a.b.c.d a.b.c.d proto sport dport`, with one space between each two words and
+    /// nothing before or after them, addresses of numbers from 0 to 255, a protocol from 0 to 255 and ports from 0 to
+    /// 65535, each number in decimal digits without leading zeros.
+    ///
+    /// `None` exactly where the text is no key's. Every key's text is read as that key, and no other text is.
+    ///
+    /// ```
+    /// FlowKey::parse(b"10.0.0.1 10.0.0.2 6 2 1")      // source 10.0.0.1, destination 10.0.0.2, protocol 6, ports 2 and 1
+    /// FlowKey::parse(b"10.0.0.1 10.0.0.2 06 2 1")     // None
+    /// FlowKey::parse(b"10.0.0.1  10.0.0.2 6 2 1")     // None
+    /// ```
     pub fn parse(text: &[u8]) -> Option<FlowKey>
         ensures found { IfSome result (λ k. text.now ≡ key_text k) }
+        ensures fits { IfSome result Fits }
         ensures none { IfNone result ((k : FlowKey) → Fits k → text.now ≡ key_text k → ⊥) }
         ensures only { (k : FlowKey) → Fits k → text.now ≡ key_text k → result ≡ Some k }
     {
         FlowKey::read(text)
     }
 
+    /// The 13 bytes of the key: source address, destination address, protocol, source port and destination port, the
+    /// ports with their high byte first.
+    ///
+    /// ```
+    /// // the key of "10.0.0.1 10.0.0.2 6 2 1"
+    /// key.to_bytes()      // [10, 0, 0, 1, 10, 0, 0, 2, 6, 0, 2, 0, 1]
+    /// ```
     pub fn to_bytes(&self) -> [u8; 13]
         ensures { result ≡ key_bytes self.now }
     {
@@ -123,8 +112,15 @@ impl FlowKey {
         [a, b, c, d, e, f, g, h, self.proto, s, t, u, v]
     }
 
+    /// The key whose 13 bytes these are. Every 13 bytes are the bytes of one key, which [`to_bytes`](FlowKey::to_bytes)
+    /// gives back, and the bytes of a key give that key.
+    ///
+    /// ```
+    /// FlowKey::from_bytes(&[10, 0, 0, 1, 10, 0, 0, 2, 6, 0, 2, 0, 1])     // the key of "10.0.0.1 10.0.0.2 6 2 1"
+    /// ```
     pub fn from_bytes(bytes: &[u8; 13]) -> FlowKey
-        ensures { key_bytes result ≡ bytes.now }
+        ensures bytes { key_bytes result ≡ bytes.now }
+        ensures only { (k : FlowKey) → Fits k → bytes.now ≡ key_bytes k → result ≡ k }
     {
         FlowKey {
             src: [bytes[0], bytes[1], bytes[2], bytes[3]],
@@ -135,75 +131,29 @@ impl FlowKey {
         }
     }
 
-    /// The one text of the key, at the front of `out`, and its length.
+    /// Writes the one text of the key at the front of `out` and answers its length in bytes, at most 47.
+    ///
+    /// The text is the one that [`parse`](FlowKey::parse) describes and reads as this key. Nothing is said of the bytes
+    /// of `out` behind it.
+    ///
+    /// ```
+    /// // the key of "10.0.0.1 10.0.0.2 6 2 1"
+    /// let mut out = [0; 47];
+    /// let length = key.print(&mut out);       // 23
+    /// &out[..length]                          // b"10.0.0.1 10.0.0.2 6 2 1"
+    /// ```
     pub fn print(&self, out: &mut [u8; 47]) -> usize
         ensures within { result ≤ 47 }
         ensures text { take result out.new ≡ key_text self.now }
     {
         let at = put_address(out, 0, &self.src);
-        let at = put_byte(out, at, b' ');
+        let at = put_space(out, at);
         let at = put_address(out, at, &self.dst);
-        let at = put_byte(out, at, b' ');
+        let at = put_space(out, at);
         let at = put_octet(out, at, self.proto);
-        let at = put_byte(out, at, b' ');
+        let at = put_space(out, at);
         let at = put_port(out, at, self.sport);
-        let at = put_byte(out, at, b' ');
+        let at = put_space(out, at);
         put_port(out, at, self.dport)
     }
-}
-
-fn put_byte(out: &mut [u8], at: usize, b: u8) -> usize
-    requires { at < length out.old }
-    ensures place { result ≡ at + 1 }
-    ensures text { take result out.new ≡ take at out.old ++ b ∷ [] }
-{
-    out[at] = b;
-    at + 1
-}
-
-// The number at `at`, after what stands before it.
-fn put_number(out: &mut [u8], at: usize, n: u16) -> usize
-    requires { at + length (decimal n) ≤ length out.old }
-    ensures place { result ≡ at + length (decimal n) }
-    ensures text { take result out.new ≡ take at out.old ++ decimal n }
-{
-    if n < 10 {
-        put_byte(out, at, b'0' + n as u8)
-    } else {
-        let at = put_number(out, at, n / 10);
-        put_byte(out, at, b'0' + (n % 10) as u8)
-    }
-}
-
-fn put_octet(out: &mut [u8], at: usize, n: u8) -> usize
-    requires { at + 3 ≤ length out.old }
-    ensures place { result ≡ at + length (decimal n) }
-    ensures short { length (decimal n) ≤ 3 }
-    ensures text { take result out.new ≡ take at out.old ++ decimal n }
-{
-    put_number(out, at, n as u16)
-}
-
-fn put_port(out: &mut [u8], at: usize, n: u16) -> usize
-    requires { at + 5 ≤ length out.old }
-    ensures place { result ≡ at + length (decimal n) }
-    ensures short { length (decimal n) ≤ 5 }
-    ensures text { take result out.new ≡ take at out.old ++ decimal n }
-{
-    put_number(out, at, n)
-}
-
-fn put_address(out: &mut [u8], at: usize, ns: &[u8; 4]) -> usize
-    requires { at + 15 ≤ length out.old }
-    ensures place { result ≡ at + length (dotted ns.now) }
-    ensures short { length (dotted ns.now) ≤ 15 }
-    ensures text { take result out.new ≡ take at out.old ++ dotted ns.now }
-{
-    let at = put_octet(out, at, ns[0]);
-    let at = put_byte(out, at, b'.');
-    let at = put_octet(out, at, ns[1]);
-    let at = put_byte(out, at, b'.');
-    let at = put_octet(out, at, ns[2]);
-    let at = put_byte(out, at, b'.');
-    put_octet(out, at, ns[3])
 }

@@ -1,7 +1,7 @@
 use Rattle.std.proofs.Common.{◌≤◌, ◌<◌, ◌^◌, ◌+◌, length, arith, lit<}
 use Rattle.std.specs.Fmt.{decimal}
 use Rattle.std.proofs.lemmas.Fmt.{length-decimal-le}
-use Rattle.flow_key.proofs.key.put_octet.Goals as goal
+use Rattle.flow_key.proofs.printing.put_octet.Goals as goal
 
 pub put_number-requires : goal.put_number-requires
 put_number-requires c = omega (arith, length-decimal-le 3 c.args.n (lit< tt) (omega arith) (omega arith))

@@ -2,7 +2,7 @@ use Rattle.std.proofs.Common.{◌≡◌, ◌∙◌, ap, sym, ℕ, List, [], ◌�
 use Rattle.std.specs.Fmt.{decimal}
 use Rattle.std.proofs.lemmas.List.{length-append}
 use Rattle.std.proofs.lemmas.Fmt.{decimal_digit, decimal_step}
-use Rattle.flow_key.proofs.key.+put_number.Goals as goal
+use Rattle.flow_key.proofs.printing.+put_number.Goals as goal
 
 one : (n : ℕ) → n < 10 → length (decimal n) ≡ 1
 one n lt = ap length (decimal_digit n lt)

@@ -1,4 +1,4 @@
-use Rattle.flow_key.proofs.key.+put_number.Given as goal
+use Rattle.flow_key.proofs.printing.+put_number.Given as goal
 
 abbrev pub decreases-put_number : goal.decreases-put_number
 decreases-put_number l = l.n
