@@ -1,6 +1,10 @@
 -- The content of a book, and the answer that it gives for a flow.
-use Rattle.std.specs.Prelude.{ℕ, Bool, ◌&&◌, ◌==◌, List, [], ◌∷◌, ◌++◌, map, length, min, fold, Option, None, Some, if◌then◌else◌}
-use Rattle.std.specs.List.{filter_map, range_with_len, list_any, find}
+use Rattle.std.specs.Prelude.{ℕ, ◌==◌, List, [], ◌∷◌, map, length, min, fold, Option, None, Some, if◌then◌else◌}
+use Rattle.std.specs.List.{filter_map, range_with_len}
+use Rattle.std.specs.Ordering.{nat_cmp, ordering_then}
+use Rattle.std.specs.declared.cmp.Ordering.{Ordering}
+use Rattle.std.specs.BTreeMap.{insert_entry, is_at}
+use Rattle.std.specs.Map.{lookup}
 use Rattle.std.specs.Option.{option_map}
 use Rattle.flow_key.specs.declared.key.FlowKey.{FlowKey}
 use Rattle.lg_model.specs.declared.column.Bucket.{Bucket}
@@ -9,31 +13,31 @@ use Rattle.lg_model.specs.Placing.{Shape, place}
 use Rattle.lg_model.specs.Sketch.{bucket_in, MAX_BYTES, MAX_DELAY}
 use Rattle.lg_model.specs.Arriving.{Column}
 
-abbrev pub same_name : Key → Key → Bool
-same_name a b = a.switch == b.switch && (a.epoch == b.epoch && a.index == b.index)
+-- Keys are ordered by switch, then by epoch, then by index.
+abbrev pub key_cmp : Key → Key → Ordering
+key_cmp a b = ordering_then (nat_cmp a.switch b.switch) (ordering_then (nat_cmp a.epoch b.epoch) (nat_cmp a.index b.index))
 
--- Whether a column of that key is among these.
-abbrev pub holds : List Column → Key → Bool
-holds cs k = list_any (λ (c : Column). same_name c.key k) cs
+-- The content of a book: a finite map from keys to buckets, as the list of its pairs in the order of their keys.
+abbrev pub Content : Type 0
+Content = List (Key × List Bucket)
 
-abbrev pub with_column : List Column → Column → List Column
-with_column cs c = if holds cs c.key then cs else cs ++ c ∷ []
+abbrev pub with_column : Content → Column → Content
+with_column content c = insert_entry key_cmp content c.key c.buckets
 
--- The content of a book: a finite map from keys to buckets, as the list of its columns, in which each key stands once.
--- Of several columns with one key the first counts.
-abbrev pub content_of : List Column → List Column
+-- The content made of these columns. (Columns with one key have the same buckets, wherever it is used; else the last counts.)
+abbrev pub content_of : List Column → Content
 content_of cs = fold with_column [] cs
 
 -- The buckets under a key.
-abbrev pub found : List Column → Key → Option (List Bucket)
-found cs k = option_map (λ (c : Column). c.buckets) (find (λ (c : Column). same_name c.key k) cs)
+abbrev pub found : Content → Key → Option (List Bucket)
+found content k = lookup (is_at (key_cmp k)) content
 
 -- What is kept under a switch, an epoch and an index.
 abbrev pub Look : Type 0
 Look = ℕ → ℕ → ℕ → Option (List Bucket)
 
-abbrev pub look_in : List Column → Look
-look_in cs s e j = found cs (record { switch = s; epoch = e; index = j })
+abbrev pub look_in : Content → Look
+look_in content s e j = found content (record { switch = s; epoch = e; index = j })
 
 -- The bucket of a flow in row i, if the column at its place there is kept.
 abbrev pub known_at : Look → Shape → ℕ → ℕ → FlowKey → ℕ → Option Bucket

@@ -4,8 +4,7 @@ use Rattle.std.specs.List.{flat_map}
 use Rattle.std.specs.Fmt.{decimal}
 use Rattle.lg_model.specs.declared.scenario.Ask.{Ask}
 use Rattle.lg_model.specs.Scenario.{Scenario, flow_at}
-use Rattle.lg_model.specs.Arriving.{Column}
-use Rattle.lg_model.specs.Answer.{Answer, look_in, Value, Unknown, AtMost, Saturated, answer}
+use Rattle.lg_model.specs.Answer.{Answer, Content, look_in, Value, Unknown, AtMost, Saturated, answer}
 
 abbrev pub value_text : Value → List ℕ
 value_text Unknown = codes "unknown"
@@ -22,10 +21,10 @@ answer_line flow switch epoch rows a = line (codes "flow " ++ decimal flow ++ co
     ++ codes " rows " ++ decimal a.rows_known ++ codes " of " ++ decimal rows ++ codes " bytes " ++ value_text a.bytes ++ codes " delay " ++ value_text a.delay)
 
 -- The answer of a content to an ask.
-abbrev pub answered : List Column → Scenario → Ask → Answer
+abbrev pub answered : Content → Scenario → Ask → Answer
 answered content w ask = answer (look_in content) w.shape ask.switch ask.epoch (flow_at w.flows ask.flow_at).key
 
-abbrev pub ask_line : List Column → Scenario → Ask → List ℕ
+abbrev pub ask_line : Content → Scenario → Ask → List ℕ
 ask_line content w ask = answer_line (flow_at w.flows ask.flow_at).name ask.switch ask.epoch w.shape.rows (answered content w ask)
 
 -- `columns N`
@@ -33,5 +32,5 @@ unfoldable pub columns_line : ℕ → List ℕ
 columns_line n = line (codes "columns " ++ decimal n)
 
 -- The report of a content: a line for each ask in order, and how many columns there are.
-abbrev pub report : List Column → Scenario → List ℕ
+abbrev pub report : Content → Scenario → List ℕ
 report content w = flat_map (ask_line content w) w.asks ++ columns_line (length content)
