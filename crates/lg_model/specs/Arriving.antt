@@ -1,5 +1,5 @@
 -- In which order which columns come to the hosts.
-use Rattle.std.specs.Prelude.{ℕ, ◌<◌, ◌≡◌, Bool, true, false, ◌==◌, ◌&&◌, List, [], ◌∷◌, ◌++◌, map, take, length, reverse, filter, count_by, Option, None, Some, slice_get, slice_index, slice_index_or, if◌then◌else◌}
+use Rattle.std.specs.Prelude.{ℕ, ◌<◌, ◌≡◌, Bool, true, false, ◌==◌, ◌&&◌, List, [], ◌∷◌, ◌++◌, map, take, drop, length, reverse, filter, count_by, Option, None, Some, slice_index, slice_index_or, if◌then◌else◌}
 use Rattle.std.specs.List.{flat_map, filter_map, enumerate_from, find, range_with_len}
 use Rattle.std.specs.Option.{option_map}
 use Rattle.lg_model.specs.declared.column.Bucket.{Bucket}
@@ -8,7 +8,7 @@ use Rattle.lg_model.specs.declared.scenario.Step.{Step}
 use Rattle.lg_model.specs.declared.scenario.Step.TheVariants as steps
 use Rattle.lg_model.specs.declared.scenario.Fate.{Fate}
 use Rattle.lg_model.specs.declared.scenario.Fate.TheVariants as fates
-use Rattle.lg_model.specs.Scenario.{Scenario}
+use Rattle.lg_model.specs.Scenario.{Scenario, no_flow}
 use Rattle.lg_model.specs.Trace.{Packet, packets, packets_of, packets_until}
 use Rattle.lg_model.specs.Sketch.{column}
 use Rattle.lg_model.specs.Carrying.{Carry}
@@ -76,23 +76,47 @@ column_of w c = record {
 abbrev pub cargo : Scenario → List Carry → ℕ → Option Column
 cargo w cs n = option_map (column_of w) (find (λ (c : Carry). c.packet == n) cs)
 
-abbrev pub is_for : ℕ → Option Packet → Bool
-is_for h None = false
-is_for h (Some p) = p.flow.host_at == h
+-- The packet of a number.
+abbrev pub no_packet : Packet
+no_packet = record { step_at = 0; flow = no_flow; size = 0; delays = []; fate = fates.Straight }
 
--- What the packet of that number brings to the host at position h.
-abbrev pub brought_by : Scenario → List Carry → ℕ → ℕ → Option Column
-brought_by w cs h n = if is_for h (slice_get (packets w) n) then cargo w cs n else None
+abbrev pub packet_at : Scenario → ℕ → Packet
+packet_at w n = slice_index_or (packets w) n no_packet
+
+-- A delivery: the position of a host, and the column that a packet brings to it. A packet that carries none brings none.
+abbrev pub brings : Scenario → List Carry → ℕ → Option (ℕ × Column)
+brings w cs n = option_map (λ c. ((packet_at w n).flow.host_at, c)) (cargo w cs n)
+
+-- The deliveries of packets of these numbers, in that order.
+abbrev pub deliveries : Scenario → List Carry → List ℕ → List (ℕ × Column)
+deliveries w cs ks = filter_map (brings w cs) ks
+
+-- The columns among deliveries that are for the host at position h.
+abbrev pub for_host : ℕ → List (ℕ × Column) → List Column
+for_host h ds = map (λ (d : ℕ × Column). d.1) (filter (λ (d : ℕ × Column). d.0 == h) ds)
 
 -- The brought columns: those that come to the host at position h, in order.
 abbrev pub brought : Scenario → List Carry → ℕ → List Column
-brought w cs h = filter_map (brought_by w cs h) (arrivals w)
+brought w cs h = for_host h (deliveries w cs (arrivals w))
 
 -- Those of all hosts, host after host in the order of declaration.
 abbrev pub brought_to_all : Scenario → List Carry → List Column
 brought_to_all w cs = flat_map (brought w cs) (range_with_len 0 (length w.hosts))
 
--- What came to the hosts by the arrivals of these numbers.
-pub record AreArrived (w : Scenario) (cs : List Carry) (ks : List ℕ) (hosts : List (List Column)) : Type 0 where
-  pub count : length hosts ≡ length w.hosts
-  pub each : (h : ℕ) → h < length hosts → slice_index_or hosts h [] ≡ filter_map (brought_by w cs h) ks
+-- What lies at the hosts after these deliveries, each column in the form that `show` gives it.
+pub record AreDelivered {X : Type 0} (show : Column → X) (ds : List (ℕ × Column)) (hosts : List (List X)) : Type 0 where
+  pub each : (h : ℕ) → h < length hosts → slice_index_or hosts h [] ≡ map show (for_host h ds)
+
+-- The packets before the packet of number k, and those of them that the step at n sent, with their numbers.
+abbrev pub packets_to : Scenario → ℕ → List Packet
+packets_to w k = take k (packets w)
+
+abbrev pub sent_by : Scenario → ℕ → ℕ → List (ℕ × Packet)
+sent_by w n k = enumerate_from (length (packets_until w n)) (drop (length (packets_until w n)) (packets_to w k))
+
+-- The numbers that arrived, and those that are held, within the step at n before its packet of number k.
+abbrev pub arrived_to : Scenario → ℕ → ℕ → List ℕ
+arrived_to w n k = arrivals_until w n ++ flat_map arrives_of (sent_by w n k)
+
+abbrev pub held_to : Scenario → ℕ → ℕ → List ℕ
+held_to w n k = held w n ++ map (λ (q : ℕ × Packet). q.0) (filter (λ (q : ℕ × Packet). is_late q.1.fate) (sent_by w n k))
