@@ -3,16 +3,17 @@ use Rattle.std.proofs.Common.{◌≡◌, ℕ, ◌<◌, ◌^◌, List, [], ◌∷
 use Rattle.std.specs.Int.{w16, from_be_bytes}
 use Rattle.std.proofs.lemmas.Nat.{from_be_bytes-to_be_bytes_2}
 use Rattle.flow_key.specs.declared.key.FlowKey.{FlowKey}
-use Rattle.flow_key.specs.KeyText.{key_bytes, Fits, IsAddress}
+use Rattle.flow_key.specs.KeyText.{key_bytes, Fits}
 
 -- the key whose fields stand in these bytes
 abbrev pub key_in : List ℕ → FlowKey
 key_in bs = record {
-    src = get_or bs 0 0 ∷ get_or bs 1 0 ∷ get_or bs 2 0 ∷ get_or bs 3 0 ∷ [];
-    dst = get_or bs 4 0 ∷ get_or bs 5 0 ∷ get_or bs 6 0 ∷ get_or bs 7 0 ∷ [];
-    proto = get_or bs 8 0;
-    sport = from_be_bytes w16 (get_or bs 9 0 ∷ get_or bs 10 0 ∷ []);
-    dport = from_be_bytes w16 (get_or bs 11 0 ∷ get_or bs 12 0 ∷ []) }
+  src = get_or bs 0 0 ∷ get_or bs 1 0 ∷ get_or bs 2 0 ∷ get_or bs 3 0 ∷ [];
+  dst = get_or bs 4 0 ∷ get_or bs 5 0 ∷ get_or bs 6 0 ∷ get_or bs 7 0 ∷ [];
+  proto = get_or bs 8 0;
+  sport = from_be_bytes w16 (get_or bs 9 0 ∷ get_or bs 10 0 ∷ []);
+  dport = from_be_bytes w16 (get_or bs 11 0 ∷ get_or bs 12 0 ∷ []);
+}
 
 abbrev key_with : List ℕ → List ℕ → FlowKey → FlowKey
 key_with s d k = record { src = s; dst = d; proto = k.proto; sport = k.sport; dport = k.dport }

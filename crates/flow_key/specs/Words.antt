@@ -4,24 +4,24 @@ use Rattle.std.specs.List.{slice_split, list_all}
 use Rattle.std.specs.Char.{is_ascii_digit}
 use Rattle.std.specs.Str.Parse.{digits_value}
 
--- the words of a text, between single bytes of that kind
+-- The words of a text, between single bytes `at`: one more than it has bytes `at`, each may be empty.
 abbrev pub words_at : ℕ → List ℕ → List (List ℕ)
 words_at at text = slice_split (λ b. b == at) text
 
--- the words of what is left, where there is something left
+-- The words of what is left of a text, none where nothing is left.
 abbrev pub words_left : ℕ → Option (List ℕ) → List (List ℕ)
 words_left at None = []
 words_left at (Some text) = words_at at text
 
--- decimal digits, one or more, with no zero in front of others
+-- The form of a number: decimal digits, one or more, with no zero in front of others.
 unfoldable pub is_number : List ℕ → Bool
 is_number word =
     if length word == 0 then false else (if slice_index word 0 == 48 && nat_lt 1 (length word) then false else list_all is_ascii_digit word)
 
--- the number of at most most that digits write
+-- The number from 0 to `most` that decimal digits write, none where it is greater.
 unfoldable pub value_to : ℕ → List ℕ → Option ℕ
 value_to most word = if nat_le (digits_value 10 word) most then Some (digits_value 10 word) else None
 
--- the number of at most most that a word writes
+-- The number from 0 to `most` that a word writes, none where it has not the form or is greater.
 unfoldable pub number_to : ℕ → List ℕ → Option ℕ
 number_to most word = if is_number word then value_to most word else None

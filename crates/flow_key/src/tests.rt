@@ -33,7 +33,7 @@ fn a_key_and_its_text(rt: HostRuntime) {
     ] {
         let mut out = [0; 47];
         let length = key.print(&mut out);
-        assert_eq!(rt; out.get(..length), Some(text.as_bytes()), "{text}");
+        assert_eq!(rt; &out[..length], text.as_bytes(), "{text}");
         assert_eq!(rt; FlowKey::parse(text.as_bytes()), Some(key), "{text}");
     }
     assert_eq!(rt; LONGEST.print(&mut [0; 47]), 47);
@@ -44,7 +44,10 @@ fn a_key_and_its_bytes(rt: HostRuntime) {
     for (key, bytes) in [
         (PLAIN, [10, 0, 0, 1, 10, 0, 0, 2, 6, 0, 2, 0, 1]),
         (LONGEST, [255; 13]),
-        (MIXED, [192, 168, 0, 10, 0, 99, 100, 255, 17, 0, 53, 156, 64]),
+        (
+            MIXED,
+            [192, 168, 0, 10, 0, 99, 100, 255, 17, 0, 53, 156, 64],
+        ),
     ] {
         assert_eq!(rt; key.to_bytes(), bytes);
         assert_eq!(rt; FlowKey::from_bytes(&bytes), key);

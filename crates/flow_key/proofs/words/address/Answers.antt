@@ -1,4 +1,4 @@
-use Rattle.std.proofs.Common.{◌≡◌, ◌∙◌, ap}
+use Rattle.std.proofs.Common.{◌∙◌, ap}
 use Rattle.flow_key.specs.KeyText.{address_of}
 use Rattle.flow_key.proofs.KeyLemmas.{address_spelled, address_again}
 use Rattle.flow_key.proofs.words.address.Goals as goal

@@ -1,6 +1,5 @@
-use Rattle.std.proofs.Common.{◌≡◌, ◌∷◌, ℕ, eqb, ◌+◌, take, drop, length, sym, ap, ◌∙◌}
+use Rattle.std.proofs.Common.{eqb, sym}
 use Rattle.std.proofs.lemmas.List.{drop-drop}
-use Rattle.flow_key.specs.Words.{words_at}
 use Rattle.flow_key.proofs.WordLemmas.{split_some, split_none}
 use Rattle.flow_key.proofs.words.cut.Goals as goal
 

@@ -1,4 +1,4 @@
-use Rattle.std.proofs.Common.{◌≡◌, ◌∙◌, ap, arith}
+use Rattle.std.proofs.Common.{◌∙◌, ap, arith}
 use Rattle.flow_key.specs.Words.{number_to}
 use Rattle.flow_key.proofs.KeyLemmas.{spelled, number_again}
 use Rattle.flow_key.proofs.words.number.Goals as goal

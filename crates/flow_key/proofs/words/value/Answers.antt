@@ -1,7 +1,7 @@
-use Rattle.std.proofs.Common.{◌≡◌, ◌+◌, ◌*◌, ◌-◌, ◌<◌, ◌≤◌, take, length, get_or, sym, arith, rules}
+use Rattle.std.proofs.Common.{◌+◌, ◌<◌, take, sym, arith}
 use Rattle.std.specs.Str.Parse.{digits_value}
 use Rattle.std.proofs.lemmas.List.{take_all}
-use Rattle.flow_key.proofs.WordLemmas.{value_more, digit_here, too_much, just}
+use Rattle.flow_key.proofs.WordLemmas.{value_more, too_much, just}
 use Rattle.flow_key.proofs.words.value.Goals as goal
 
 pub returns-then-next-most-clause-value : goal.returns-then-next-most-clause-value

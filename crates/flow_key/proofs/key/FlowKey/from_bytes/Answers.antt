@@ -1,4 +1,4 @@
-use Rattle.std.proofs.Common.{◌≡◌, ◌∙◌, ap}
+use Rattle.std.proofs.Common.{◌∙◌, ap}
 use Rattle.flow_key.proofs.ByteLemmas.{key_in, key_back}
 use Rattle.flow_key.proofs.key.FlowKey.from_bytes.Goals as goal
 

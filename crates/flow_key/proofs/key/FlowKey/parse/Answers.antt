@@ -1,4 +1,4 @@
-use Rattle.std.proofs.Common.{◌≡◌, ◌∙◌, ap}
+use Rattle.std.proofs.Common.{◌∙◌, ap}
 use Rattle.flow_key.specs.KeyText.{key_of}
 use Rattle.flow_key.proofs.KeyLemmas.{found, no_key, key_again}
 use Rattle.flow_key.proofs.key.FlowKey.parse.Goals as goal
