@@ -1,0 +1,9 @@
+use Rattle.std.proofs.Common.{◌≡◌, ◌<◌, length, arith}
+use Rattle.sumax_sketch.proofs.Columns.{zeros_by_rows}
+use Rattle.sumax_sketch.proofs.rows.clear_rows.Goals as goal
+
+pub returns : goal.returns
+returns c =
+    let held = c.loop-i.invariant in
+    zeros_by_rows c.args.rows.now c.loop-i.rows held.same_length
+    (λ k h. let in_loop : k < c.loop-i.i = omega arith in held.done k in_loop)
