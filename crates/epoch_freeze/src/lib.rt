@@ -1,0 +1,11 @@
+//! Two sketches of a switch: one that counts the epoch that runs, and one that was frozen at the end of the epoch
+//! before it.
+//!
+//! | Item | What it is |
+//! |---|---|
+//! | [`Twins`] | the two sketches, the epoch, and how often each column of the frozen one was put out |
+#![tactic(auto)]
+
+mod twins;
+
+pub use twins::Twins;
