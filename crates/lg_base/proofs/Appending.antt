@@ -1,5 +1,5 @@
 -- Known bytes that grow twice.
-use Rattle.std.specs.Prelude.{◌≡◌, ℕ, List, [], ◌∷◌, ◌++◌, Option, None, Some}
+use Rattle.std.specs.Prelude.{◌≡◌, ℕ, List, [], ◌++◌, Option, None, Some}
 use Rattle.std.specs.Io.KnownBytes.{Appends}
 use Rattle.std.proofs.Common.{◌+◌, ◌-◌, length, take, drop, arith, sym, ap, ◌∙◌, append_assoc, append-nil, take_all, length-drop, drop-drop, take-append-drop}
 

@@ -7,18 +7,28 @@
 //! | [`MemorySource`], [`MemorySink`] | both in memory, failing where they are told to |
 //! | [`StdSource`], [`StdSink`] | both over std's streams |
 //! | [`Memory`], [`Failed`], [`WriteFault`] | want of memory, a failed call of the outside, bytes not put |
+//!
+//! A source or a sink has a written meaning: the bytes that are left or written, where the implementation
+//! tells them, and a count of faults that never falls. A call fails only where the count rises in it, or
+//! stands at 2^64 - 1 after it. So a caller that hands in a source knows that a fault of reading comes from
+//! that source, and not from the code between.
 #![tactic(auto)]
 
-mod fakes;
 mod faults;
+mod listed;
+mod memory_sink;
+mod memory_source;
 mod put;
 mod sink;
 mod source;
-mod standard;
+mod std_sink;
+mod std_source;
 
-pub use fakes::{MemorySink, MemorySource};
 pub use faults::{Failed, Memory, WriteFault};
+pub use memory_sink::MemorySink;
+pub use memory_source::MemorySource;
 pub use put::put_all;
 pub use sink::Sink;
 pub use source::Source;
-pub use standard::{StdSink, StdSource};
+pub use std_sink::StdSink;
+pub use std_source::StdSource;

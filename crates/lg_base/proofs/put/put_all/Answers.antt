@@ -1,5 +1,4 @@
-use Rattle.std.proofs.Common.{◌≡◌, ℕ, ◌+◌, ◌≤◌, length, take, drop, arith, length-drop, take-add}
-use Rattle.std.specs.Io.KnownBytes.{Appends}
+use Rattle.std.proofs.Common.{arith, length-drop, take-add}
 use Rattle.lg_base.proofs.Appending.{Appends-more, slice_rest}
 use Rattle.lg_base.proofs.put.put_all.Goals as goal
 

@@ -1,7 +1,7 @@
-use Rattle.std.proofs.Common.{◌≡◌, ℕ, ◌+◌, ◌≤◌, ◌<◌, ap, length, take, drop, arith, length-drop, drop_of_length-le}
+use Rattle.std.proofs.Common.{◌+◌, ap, length, arith, length-drop, drop_of_length-le}
 use Rattle.lg_base.specs.Fakes.{SourceState}
 use Rattle.lg_base.proofs.Appending.{front_and_rest, slice_rest}
-use Rattle.lg_base.proofs.fakes.MemorySourceSource.take.Goals as goal
+use Rattle.lg_base.proofs.memory_source.MemorySourceSource.take.Goals as goal
 
 pub returns-clause-bytes : goal.returns-clause-bytes
 returns-clause-bytes c =

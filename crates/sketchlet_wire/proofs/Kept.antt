@@ -1,0 +1,97 @@
+-- How a column is kept and written, over plain lists.
+use Rattle.std.proofs.Common.{◌≡◌, ℕ, get_or, suc, ◌+◌, ◌-◌, ◌*◌, ◌^◌, ◌<◌, ◌≤◌, List, [], ◌∷◌, ◌++◌, length, take, drop, slice_set, refl, sym, ap, ◌∙◌, append_assoc, zero, subst, arith}
+use Rattle.std.proofs.Math.Numerals.{add-one}
+use Rattle.std.specs.List.{flat_map}
+use Rattle.std.proofs.lemmas.List.{take_at, drop_at, length-append, length-take, length-drop, drop-drop, set_at, append-nil, nil_from_length}
+use Rattle.std.proofs.lemmas.List.{take_all, take_more}
+use Rattle.std.proofs.lemmas.List.Concat.{flat_map-append, flat_map-cons}
+use borrow.Rule.Slice.PartMut.{put_mid, mid_of}
+use Rattle.lg_model.specs.declared.column.Bucket.{Bucket}
+use Rattle.lg_model.specs.declared.column.Key.{Key}
+use Rattle.lg_model.specs.declared.column.Dims.{Dims}
+use Rattle.lg_model.specs.Sketch.{zero_bucket}
+use Rattle.sketchlet_wire.specs.Spelling.{IsAdmitted, IsColumn, IsKept, FitBuckets, shown, zeros, bucket_bytes}
+use Rattle.sketchlet_wire.specs.Reading.{bucket_from, buckets_from}
+use Rattle.sketchlet_wire.proofs.Fields.{fit_front, bucket_len, buckets_len, buckets_more, buckets_from_len}
+
+sub_zeros : (i : ℕ) → i < 8 → drop i zeros ≡ zero_bucket ∷ drop (suc i) zeros
+sub_zeros zero lt = refl
+sub_zeros (suc zero) lt = refl
+sub_zeros (suc (suc zero)) lt = refl
+sub_zeros (suc (suc (suc zero))) lt = refl
+sub_zeros (suc (suc (suc (suc zero)))) lt = refl
+sub_zeros (suc (suc (suc (suc (suc zero))))) lt = refl
+sub_zeros (suc (suc (suc (suc (suc (suc zero)))))) lt = refl
+sub_zeros (suc (suc (suc (suc (suc (suc (suc zero))))))) lt = refl
+sub_zeros (suc (suc (suc (suc (suc (suc (suc (suc n)))))))) lt = absurd (omega arith)
+
+pub shown_kept : (key : Key) (dims : Dims) (buckets : List Bucket) → dims.rows ≤ length buckets → shown key dims (take dims.rows buckets ++ drop dims.rows zeros) ≡ shown key dims buckets
+shown_kept key dims buckets long =
+    let e : take dims.rows (take dims.rows buckets ++ drop dims.rows zeros) ≡ take dims.rows buckets = take_at (take dims.rows buckets) (drop dims.rows zeros) dims.rows (omega (arith, length-take dims.rows buckets)) in
+    λ i. record { key = key; dims = dims; buckets = e i }
+
+pub is_kept : (key : Key) (dims : Dims) (buckets : List Bucket) → IsAdmitted key dims → key.switch < 2 ^ 16 → key.epoch < 2 ^ 32 → length buckets ≡ 8 → FitBuckets buckets
+    → IsKept key dims (take dims.rows buckets ++ drop dims.rows zeros)
+is_kept key dims buckets ok switch epoch long fits =
+    let few = ok.few_rows in
+    let len : length (take dims.rows buckets) ≡ dims.rows = omega (arith, length-take dims.rows buckets) in
+    record {
+      column = subst IsColumn (sym (shown_kept key dims buckets (omega arith))) (record {
+        some_rows = ok.some_rows;
+        few_rows = ok.few_rows;
+        small_width = ok.small_width;
+        index = ok.index;
+        switch = switch;
+        epoch = epoch;
+        buckets = len;
+        fit = fit_front dims.rows buckets fits;
+      });
+      zeros = drop_at (take dims.rows buckets) (drop dims.rows zeros) dims.rows len;
+    }
+
+-- one bucket more is read
+pub read_more : (i : ℕ) (bytes : List ℕ) (kept : List Bucket) → i < 8 → kept ≡ buckets_from i bytes ++ drop i zeros
+    → slice_set kept i (bucket_from (drop (6 * i) bytes)) ≡ buckets_from (i + 1) bytes ++ drop (i + 1) zeros
+read_more i bytes kept lt so_far =
+    let b = bucket_from (drop (6 * i) bytes) in
+    let open_zeros : drop i zeros ≡ zero_bucket ∷ drop (suc i) zeros = sub_zeros i lt in
+    let e : kept ≡ buckets_from i bytes ++ zero_bucket ∷ drop (suc i) zeros = so_far ∙ ap (λ (z : List Bucket). buckets_from i bytes ++ z) open_zeros in
+    ap (λ (k : List Bucket). slice_set k i b) e ∙ set_at (buckets_from i bytes) zero_bucket (drop (suc i) zeros) b i (buckets_from_len i bytes)
+    ∙ sym (append_assoc (buckets_from i bytes) (b ∷ []) (drop (suc i) zeros)) ∙ ap (λ (x : List Bucket). x ++ drop (suc i) zeros) (sym (buckets_more i bytes))
+    ∙ ap (λ (k : ℕ). buckets_from k bytes ++ drop k zeros) (sym (add-one i))
+
+-- one bucket more is written
+pub put_more : (front out old : List ℕ) (b : Bucket) (n k m : ℕ) → length front ≡ n → out ≡ front ++ drop n old → n + 6 ≤ length old → k ≡ length old - n → m ≡ n + 6
+    → put_mid n k out (bucket_bytes b ++ drop 6 (drop n out)) ≡ (front ++ bucket_bytes b) ++ drop m old
+put_more front out old b n k m len so_far fits k-is m-is =
+    let there : drop n out ≡ drop n old = ap (drop n) so_far ∙ drop_at front (drop n old) n len in
+    let before : take n out ≡ front = ap (take n) so_far ∙ take_at front (drop n old) n len in
+    let same : length out ≡ length old = ap length so_far ∙ omega (arith, length-append front (drop n old), length-drop n old) in
+    let past : drop k (drop n out) ≡ [] = nil_from_length (drop k (drop n out)) (omega (arith, length-drop k (drop n out), length-drop n out, same, k-is)) in
+    let end : drop 6 (drop n out) ≡ drop m old = ap (drop 6) there ∙ drop-drop 6 n old ∙ ap (λ (x : ℕ). drop x old) (sym m-is) in
+    ap (λ (x : List ℕ). x ++ ((bucket_bytes b ++ drop 6 (drop n out)) ++ drop k (drop n out))) before
+    ∙ ap (λ (x : List ℕ). front ++ ((bucket_bytes b ++ drop 6 (drop n out)) ++ x)) past
+    ∙ ap (λ (x : List ℕ). front ++ x) (append-nil (bucket_bytes b ++ drop 6 (drop n out)))
+    ∙ ap (λ (x : List ℕ). front ++ (bucket_bytes b ++ x)) end
+    ∙ sym (append_assoc front (bucket_bytes b) (drop m old))
+
+pub encoded_more : (a d k out old new : List ℕ) (bs : List Bucket) (b : Bucket) (i n : ℕ) → n ≡ 14 + 6 * i → length a + (length d + length k) ≡ 14 → i < length bs → i < 8 → b ≡ get_or bs i zero_bucket → length out ≡ 62 → length old ≡ 62
+    → out ≡ (a ++ (d ++ (k ++ flat_map bucket_bytes (take i bs)))) ++ drop (14 + 6 * i) old → new ≡ bucket_bytes b ++ drop 6 (mid_of n (62 - n) out)
+    → (length (put_mid n (62 - n) out new) ≡ 62) × (put_mid n (62 - n) out new ≡ (a ++ (d ++ (k ++ flat_map bucket_bytes (take (i + 1) bs)))) ++ drop (14 + 6 * (i + 1)) old)
+encoded_more a d k out old new bs b i n n-is head lt few b-is out-len old-len so_far new-is =
+    let F : List ℕ = flat_map bucket_bytes (take i bs) in
+    let front : List ℕ = a ++ (d ++ (k ++ F)) in
+    let m : ℕ = 14 + 6 * (i + 1) in
+    let len : length front ≡ n = omega (arith, length-append a (d ++ (k ++ F)), length-append d (k ++ F), length-append k F, buckets_len (take i bs), length-take i bs, n-is, head, lt) in
+    let mid : mid_of n (62 - n) out ≡ drop n out = take_all (62 - n) (drop n out) (omega (arith, length-drop n out, out-len)) in
+    let new2 : new ≡ bucket_bytes b ++ drop 6 (drop n out) = new-is ∙ ap (λ (x : List ℕ). bucket_bytes b ++ drop 6 x) mid in
+    let so_far2 : out ≡ front ++ drop n old = so_far ∙ ap (λ (x : ℕ). front ++ drop x old) (sym n-is) in
+    let step = put_more front out old b n (62 - n) m len so_far2 (omega arith) (omega arith) (omega arith) in
+    let taken : take (i + 1) bs ≡ take i bs ++ b ∷ [] = take_more bs i zero_bucket lt ∙ ap (λ (x : Bucket). take i bs ++ x ∷ []) (sym b-is) in
+    let single : flat_map bucket_bytes (b ∷ []) ≡ bucket_bytes b = flat_map-cons bucket_bytes b [] ∙ append-nil (bucket_bytes b) in
+    let more : flat_map bucket_bytes (take (i + 1) bs) ≡ F ++ bucket_bytes b = ap (flat_map bucket_bytes) taken ∙ flat_map-append bucket_bytes (take i bs) (b ∷ []) ∙ ap (λ (x : List ℕ). F ++ x) single in
+    let regroup : front ++ bucket_bytes b ≡ a ++ (d ++ (k ++ (F ++ bucket_bytes b))) = simp append_assoc in
+    let whole : put_mid n (62 - n) out new ≡ (a ++ (d ++ (k ++ flat_map bucket_bytes (take (i + 1) bs)))) ++ drop m old =
+    ap (put_mid n (62 - n) out) new2 ∙ step ∙ ap (λ (x : List ℕ). x ++ drop m old) (regroup ∙ ap (λ (x : List ℕ). a ++ (d ++ (k ++ x))) (sym more)) in
+    let whole2 : put_mid n (62 - n) out new ≡ (front ++ bucket_bytes b) ++ drop m old = ap (put_mid n (62 - n) out) new2 ∙ step in
+    (ap length whole2 ∙ omega (arith, length-append (front ++ bucket_bytes b) (drop m old), length-append front (bucket_bytes b), bucket_len b, length-drop m old, len, old-len, n-is), whole)

@@ -1,0 +1,7 @@
+pub mod Spelling
+pub mod Reading
+pub mod Law
+pub mod Uploads
+pub mod Packing
+pub mod Carried
+pub mod Worked

@@ -1,0 +1,90 @@
+//! A column of a sketch.
+ghost use Rattle.std.specs.Prelude.{◌≡◌, ◌<◌, MatchOption, slice_index_or};
+ghost use Rattle.lg_model.specs.Sketch.{zero_bucket};
+ghost use Rattle.sketchlet_wire.specs.Spelling.{shown, IsAdmitted, IsColumn};
+
+use crate::ranges::{buckets_fit, key_fits};
+use lg_model::{Bucket, Dims, Key};
+use std::marker::Model;
+
+/// The buckets of one index over all rows of a frozen sketch, with what names them. The rows are 1 to 8, the width is 1
+/// to 4096, and the index is below the width.
+#[derive(Clone, Copy, Debug, PartialEq, Eq)]
+pub struct Column {
+    key: Key,
+    dims: Dims,
+    // Row 0 first, with zeros past the rows.
+    buckets: [Bucket; 8],
+}
+
+impl Model for Column {
+    ghost use Rattle.sketchlet_wire.specs.Spelling.{ColumnData, IsKept, shown, filled, filled_back};
+
+    ghost Value = { ColumnData };
+
+    ghost view = { λ c. shown c.key c.dims c.buckets };
+
+    ghost invariant = { λ c. IsKept c.key c.dims c.buckets };
+
+    ghost inverse = { λ v. record { key = v.key; dims = v.dims; buckets = filled v.dims v.buckets } };
+
+    ghost inverse_ok = { λ a h i. record { key = a.key; dims = a.dims; buckets = filled_back a.key a.dims a.buckets h i } };
+}
+
+impl Column {
+    /// A column with these buckets, row 0 first, of which those past the rows are replaced by zeros. None exactly where the
+    /// rows are not 1 to 8, the width is not 1 to 4096, or the index is not below the width. Takes no memory.
+    pub fn new(key: Key, dims: Dims, buckets: [Bucket; 8]) -> Option<Column>
+        ensures { MatchOption result (IsAdmitted key dims → ⊥) (λ c. IsAdmitted key dims × (c ≡ shown key dims buckets)) }
+    {
+        if dims.rows < 1
+            || dims.rows > 8
+            || dims.width < 1
+            || dims.width > 4096
+            || key.index >= dims.width
+        {
+            return None;
+        }
+        Some(Column::kept(key, dims, buckets))
+    }
+
+    pub(crate) fn kept(key: Key, dims: Dims, buckets: [Bucket; 8]) -> Column
+        requires { IsAdmitted key dims }
+        ensures { result ≡ shown key dims buckets }
+    {
+        key_fits(key);
+        buckets_fit(&buckets);
+        let rows = dims.rows as usize;
+        let mut kept = [Bucket { bytes: 0, delay: 0 }; 8];
+        kept[..rows].copy_from_slice(&buckets[..rows]);
+        Column {
+            key,
+            dims,
+            buckets: kept,
+        }
+    }
+
+    /// What names the column.
+    pub fn key(&self) -> Key
+        ensures value { result ≡ self.now.key }
+        ensures admitted { IsColumn self.now }
+    {
+        self.key
+    }
+
+    /// The size of the sketch that it is of.
+    pub fn dims(&self) -> Dims
+        ensures value { result ≡ self.now.dims }
+        ensures admitted { IsColumn self.now }
+    {
+        self.dims
+    }
+
+    /// The bucket of a row, which is below the rows.
+    pub fn bucket(&self, row: u8) -> Bucket
+        requires { row < self.now.dims.rows }
+        ensures { result ≡ slice_index_or self.now.buckets row zero_bucket }
+    {
+        self.buckets[row as usize]
+    }
+}

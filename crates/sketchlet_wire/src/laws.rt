@@ -1,0 +1,13 @@
+//! Laws over the spellings alone, each on a function with an empty body, and worked bytes.
+ghost use Rattle.sketchlet_wire.specs.Law.{LawOfSpellings};
+ghost use Rattle.sketchlet_wire.specs.Worked.{WorkedBytes};
+
+/// No spelling is a proper prefix of another, and each is of one column (docs/FORMATS.md, Sketchlet).
+pub fn spellings_are_apart()
+    ensures { LawOfSpellings }
+{}
+
+/// The spelling of a known column and the faults of bytes that are close to it, worked out by computation.
+pub fn worked_bytes()
+    ensures { WorkedBytes }
+{}

@@ -1,0 +1,36 @@
+//! The bytes of a column: a sketchlet, one spelling for each column (docs/FORMATS.md, Sketchlet).
+//!
+//! | Item | What it is |
+//! |---|---|
+//! | [`Column`] | the buckets of one index over all rows, with its key and the size of its sketch |
+//! | [`encode`], [`decode`] | a column to bytes and back |
+//! | [`WireFault`] | why bytes are no column |
+//! | [`Packed`] | a spelling in an array |
+//! | [`Upload`], [`holds`] | 1 to 16 columns that a host sends at once; whether a key stands in a list |
+//! | [`Bucket`], [`Dims`], [`Key`] | the parts of a column, of the model's crate |
+//! | [`spellings_are_apart`], [`worked_bytes`] | laws over the spellings |
+//!
+//! Nothing here takes memory. A sketchlet is the letters `LG`, a version, the rows, the width, the key and then 6 bytes
+//! for each row; all numbers are big-endian.
+#![tactic(auto)]
+
+mod column;
+mod fault;
+mod laws;
+mod packed;
+mod ranges;
+mod reading;
+mod upload;
+mod writing;
+
+pub use column::Column;
+pub use fault::WireFault;
+pub use laws::{spellings_are_apart, worked_bytes};
+pub use lg_model::{Bucket, Dims, Key};
+pub use packed::Packed;
+pub use reading::decode;
+pub use upload::{Upload, holds};
+pub use writing::encode;
+
+#[cfg(test)]
+mod tests;
