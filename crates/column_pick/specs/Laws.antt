@@ -27,4 +27,4 @@ pub record IsNextAsk (pick : Pick) (name asks hops : ℕ) (offer : Offer) (said 
 pub record LawOfTheAsks : Type 0 where
   pub first : (pick : Pick) (name : ℕ) → fresh pick name ≡ after_asks pick name 0
   pub each : (pick : Pick) (name asks hops : ℕ) (offer : Offer) (said : Option ℕ) (after : AnyPicker) → asks < 2 ^ 64 - 1 →
-    AnyPicks (after_asks pick name asks) hops offer said after → IsNextAsk pick name asks hops offer said after
+      AnyPicks (after_asks pick name asks) hops offer said after → IsNextAsk pick name asks hops offer said after

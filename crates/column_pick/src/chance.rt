@@ -80,3 +80,44 @@ fn less_used(twins: &Twins, first: u32, second: u32) -> u16
         first
     }
 }
+
+#[cfg(test)]
+mod tests {
+    use super::*;
+
+    // The words are from a ChaCha8 in another language; a block has 16 of them.
+    #[test]
+    fn words_of_three_streams(rt: HostRuntime) {
+        for (seed, switch, first, behind_a_block) in [
+            (
+                0,
+                0,
+                [804192318, 3594542985, 3904396159],
+                [234532562, 1371645418, 1826294463],
+            ),
+            (
+                7,
+                1,
+                [3909990497, 1680148722, 1338336546],
+                [512706804, 2772089622, 999175034],
+            ),
+            (
+                u64::MAX,
+                65535,
+                [1506885742, 59469922, 224550818],
+                [2104016835, 2867344886, 491188402],
+            ),
+        ] {
+            let mut chance = Chance::new(seed, switch);
+            for want in first {
+                assert_eq!(rt; word(&mut chance.rng), want, "seed {seed}");
+            }
+            for _ in 3..16 {
+                word(&mut chance.rng);
+            }
+            for want in behind_a_block {
+                assert_eq!(rt; word(&mut chance.rng), want, "seed {seed}");
+            }
+        }
+    }
+}

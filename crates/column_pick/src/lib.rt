@@ -14,6 +14,8 @@ mod chance;
 mod laws;
 mod picker;
 mod script;
+#[cfg(test)]
+mod tests;
 mod turns;
 
 pub use any_picker::AnyPicker;
