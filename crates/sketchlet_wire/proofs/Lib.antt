@@ -2,3 +2,4 @@ pub mod Fields
 pub mod Columns
 pub mod Kept
 pub mod Each
+pub mod Same

@@ -1,5 +1,5 @@
 //! A column of a sketch.
-ghost use Rattle.std.specs.Prelude.{◌≡◌, ◌<◌, MatchOption, slice_index_or};
+ghost use Rattle.std.specs.Prelude.{◌≡◌, ◌<◌, MatchOption, slice_index_or, true};
 ghost use Rattle.lg_model.specs.Sketch.{zero_bucket};
 ghost use Rattle.sketchlet_wire.specs.Spelling.{shown, IsAdmitted, IsColumn};
 
@@ -86,5 +86,13 @@ impl Column {
         ensures { result ≡ slice_index_or self.now.buckets row zero_bucket }
     {
         self.buckets[row as usize]
+    }
+
+    /// Whether both are one column: the same key, size and buckets.
+    pub fn is_same(&self, other: &Column) -> bool
+        ensures same { result ≡ true → self.now ≡ other.now }
+        ensures found { self.now ≡ other.now → result ≡ true }
+    {
+        self == other
     }
 }

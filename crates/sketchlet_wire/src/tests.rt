@@ -36,7 +36,17 @@ fn writes_the_worked_column(rt: HostRuntime) -> Result<(), Fail> {
     assert_eq!(rt; packed.spelled(), WORKED.as_slice());
     let (read, len) = packed.column()?;
     assert_eq!(rt; len, 26);
-    assert_eq!(rt; read.key(), key(0));
+    assert!(rt; read.is_same(&column));
+    let other = Column::new(
+        key(0),
+        dims,
+        [Bucket {
+            bytes: 1500,
+            delay: 21,
+        }; 8],
+    )
+    .ok_or("no column")?;
+    assert!(rt; !read.is_same(&other));
     spellings_are_apart();
     worked_bytes();
     Ok(())
