@@ -22,6 +22,8 @@ use Rattle.lg_model.specs.Trace.{packets_until, Packet, packets, packet_of, pack
 use Rattle.lg_model.specs.Carrying.{Carry}
 use Rattle.lg_model.specs.Arriving.{Column, column_of, is_release, is_late, arrives, released, is_held, held, arrives_of, arrivals_at, arrivals_until, cargo, packet_at, no_packet, brings, deliveries, for_host, AreDelivered, packets_to, sent_by, arrived_to, held_to}
 use Rattle.lg_model.specs.declared.scenario.Step.TheVariants as steps
+use Rattle.lg_model.specs.Matching.{Matched}
+use Rattle.lg_model.proofs.Pairing.{matched_push}
 use Rattle.lg_model.proofs.Tracing.{enumerate_from-append, packets_split, packets_from, packets_more, packets_before, packets_at, step_at}
 
 -- one step more
@@ -84,9 +86,9 @@ deliveries_reverse w cs (k ∷ ks) =
     one (Some d) = sym (reverse-append (d ∷ []) (deliveries w cs ks))
 
 -- one delivery more
-pub deliver_one : {X : Type 0} (show : Column → X) (ds : List (ℕ × Column)) (hosts : List (List X)) (a : ℕ) (c : Column) (row : List X) (x : X) → a < length hosts →
-    row ≡ slice_index_or hosts a [] → x ≡ show c → AreDelivered show ds hosts → AreDelivered show (ds ++ (a, c) ∷ []) (slice_set hosts a (row ++ x ∷ []))
-deliver_one {X} show ds hosts a c row x inside row_is shown all =
+pub deliver_one : {X : Type 0} (IsOf : X → Column → Type 0) (ds : List (ℕ × Column)) (hosts : List (List X)) (a : ℕ) (c : Column) (row : List X) (x : X) → a < length hosts →
+    row ≡ slice_index_or hosts a [] → IsOf x c → AreDelivered IsOf ds hosts → AreDelivered IsOf (ds ++ (a, c) ∷ []) (slice_set hosts a (row ++ x ∷ []))
+deliver_one {X} IsOf ds hosts a c row x inside row_is is all =
     let new : List X = row ++ x ∷ [] in
     let long : length (slice_set hosts a new) ≡ length hosts = length-set hosts a new in
     record {
@@ -95,15 +97,16 @@ deliver_one {X} show ds hosts a c row x inside row_is shown all =
             let more : for_host h (ds ++ (a, c) ∷ []) ≡ for_host h ds ++ c ∷ [] =
             ap (map (λ (d : ℕ × Column). d.1)) (filter-append (λ (d : ℕ × Column). d.0 == h) ds ((a, c) ∷ []) ∙ (rw same.0 refl))
             ∙ map-append (λ (d : ℕ × Column). d.1) (filter (λ (d : ℕ × Column). d.0 == h) ds) ((a, c) ∷ []) in
-            ap (λ r. slice_index_or (slice_set hosts a new) r []) (sym same.1) ∙ get_or-set_same hosts a new [] inside
-            ∙ (λ i. row_is i ++ shown i ∷ [])
-            ∙ ap (λ xs. xs ++ show c ∷ []) (all.each a inside ∙ ap (λ r. map show (for_host r ds)) same.1)
-            ∙ sym (ap (map show) more ∙ map-append show (for_host h ds) (c ∷ []))
+            let old : Matched IsOf (slice_index_or hosts a []) (for_host h ds) = subst (λ (r : ℕ). Matched IsOf (slice_index_or hosts a []) (for_host r ds)) same.1 (all.each a inside) in
+            let here : Matched IsOf new (for_host h ds ++ c ∷ []) = matched_push IsOf row (for_host h ds) x c (subst (λ (xs : List X). Matched IsOf xs (for_host h ds)) (sym row_is) old) is in
+            let at : slice_index_or (slice_set hosts a new) h [] ≡ new = ap (λ r. slice_index_or (slice_set hosts a new) r []) (sym same.1) ∙ get_or-set_same hosts a new [] inside in
+            subst (λ (xs : List X). Matched IsOf xs (for_host h (ds ++ (a, c) ∷ []))) (sym at) (subst (Matched IsOf new) (sym more) here)
         | inr other ↦
             let ne : h ≢ a = λ q. other.1 (sym q) in
             let same : for_host h (ds ++ (a, c) ∷ []) ≡ for_host h ds =
             ap (map (λ (d : ℕ × Column). d.1)) (filter-append (λ (d : ℕ × Column). d.0 == h) ds ((a, c) ∷ []) ∙ (rw other.0 (append-nil (filter (λ (d : ℕ × Column). d.0 == h) ds)))) in
-            get_or-set_other hosts a h new [] ne ∙ all.each h (omega (arith, long)) ∙ ap (map show) (sym same)
+            subst (λ (xs : List X). Matched IsOf xs (for_host h (ds ++ (a, c) ∷ []))) (sym (get_or-set_other hosts a h new [] ne))
+            (subst (Matched IsOf (slice_index_or hosts h [])) (sym same) (all.each h (omega (arith, long))))
       ];
     }
 

@@ -10,7 +10,7 @@ use Rattle.std.proofs.lemmas.Bool.Decides.{eqb_tells}
 use Rattle.lg_model.specs.Scenario.{Scenario, ended}
 use Rattle.lg_model.specs.Trace.{Meeting, ended_before}
 use Rattle.lg_model.specs.Sketch.{column_at}
-use Rattle.lg_model.specs.Carrying.{Carry, carries, carry_at, is_ask, with_choice}
+use Rattle.lg_model.specs.Carrying.{Carry, Adds, carries, carry_at, is_ask, with_choice}
 use Rattle.lg_model.specs.Arriving.{Column, column_of, cargo}
 use Rattle.lg_model.specs.Runs.{Runs}
 use Rattle.lg_model.specs.Asking.{Picks, Asking, IsAsked, IsPick}
@@ -41,31 +41,24 @@ pub buckets_are : (w : Scenario) (m : Meeting) (ms : List Meeting) (cs : List Ca
     column_at (slice_index_or ts m.switch_at d).frozen j ≡ (column_of w (carry_at w m j)).buckets
 buckets_are w m ms cs ts d j all inside some = ap (λ t. column_at t j) ((all.each m.switch_at d inside).frozen some)
 
--- what the meetings of one packet add to the carried list
-pub record Adds (n : ℕ) (old new : List Carry) : Type 0 where
-  pub rest : List Carry
-  pub is : new ≡ old ++ rest
-  pub late : All (λ (c : Carry). n ≤ c.packet) rest
-
-adds_one : {S : Type 0} (picks : Picks S) (w : Scenario) (m : Meeting) (a b : Asking S) → IsPick picks w m a b → Adds m.number a.carried b.carried
+-- what a meeting adds to the carried list
+pub adds_one : {S : Type 0} (picks : Picks S) (w : Scenario) (m : Meeting) (a b : Asking S) → IsPick picks w m a b → Adds m.number a.carried b.carried
 adds_one {S} picks w m a b pick =
     (elim (is_ask w a.carried m) as (λ (v : Bool). is_ask w a.carried m ≡ v → Adds m.number a.carried b.carried) [
       | true ↦ λ yes_ask. let asked : IsAsked picks w m a b = pick.asks yes_ask in
           (elim asked.answer as (λ (v : Option ℕ). b.carried ≡ with_choice w m a.carried v → Adds m.number a.carried b.carried) [
-            | None ↦ λ q. record { rest = []; is = q ∙ sym (append-nil a.carried); late = All-nil (λ (c : Carry). m.number ≤ c.packet) }
-            | Some j ↦ λ q. record { rest = carry_at w m j ∷ []; is = q; late = All-cons (λ (c : Carry). m.number ≤ c.packet) (carry_at w m j) [] (let e : m.number ≤ m.number = omega arith in e) (All-nil (λ (c : Carry). m.number ≤ c.packet)) }
+            | None ↦ λ q. record { more = []; is = q ∙ sym (append-nil a.carried); late = All-nil (λ (c : Carry). m.number ≤ c.packet) }
+            | Some j ↦ λ q. record { more = carry_at w m j ∷ []; is = q; late = All-cons (λ (c : Carry). m.number ≤ c.packet) (carry_at w m j) [] (let e : m.number ≤ m.number = omega arith in e) (All-nil (λ (c : Carry). m.number ≤ c.packet)) }
           ]) asked.carried
-      | false ↦ λ no_ask. record { rest = []; is = ap (λ (x : Asking S). x.carried) (pick.passes no_ask) ∙ sym (append-nil a.carried); late = All-nil (λ (c : Carry). m.number ≤ c.packet) }
+      | false ↦ λ no_ask. record { more = []; is = ap (λ (x : Asking S). x.carried) (pick.passes no_ask) ∙ sym (append-nil a.carried); late = All-nil (λ (c : Carry). m.number ≤ c.packet) }
     ]) refl
 
-pub adds_all : {S : Type 0} (picks : Picks S) (w : Scenario) (n : ℕ) (ms : List Meeting) (a b : Asking S) → All (λ (m : Meeting). m.number ≡ n) ms → Runs (IsPick picks w) ms a b → Adds n a.carried b.carried
-adds_all {S} picks w n [] a b all run = record { rest = []; is = ap (λ (x : Asking S). x.carried) run ∙ sym (append-nil a.carried); late = All-nil (λ (c : Carry). n ≤ c.packet) }
-adds_all picks w n (m ∷ ms) a b all run =
-    let same : m.number ≡ n = All-head (λ (x : Meeting). x.number ≡ n) m ms all in
-    let one : Adds n a.carried run.0.carried = subst (λ (k : ℕ). Adds k a.carried run.0.carried) same (adds_one picks w m a run.0 run.1) in
-    let more : Adds n run.0.carried b.carried = adds_all picks w n ms run.0 b (All-tail (λ (x : Meeting). x.number ≡ n) m ms all) run.2 in
-    record {
-      rest = one.rest ++ more.rest;
-      is = more.is ∙ ap (λ xs. xs ++ more.rest) one.is ∙ append_assoc a.carried one.rest more.rest;
-      late = All-append (λ (c : Carry). n ≤ c.packet) one.rest more.rest one.late more.late;
-    }
+pub adds_none : (n : ℕ) (cs : List Carry) → Adds n cs cs
+adds_none n cs = record { more = []; is = sym (append-nil cs); late = All-nil (λ (c : Carry). n ≤ c.packet) }
+
+pub adds_both : (n : ℕ) (a b c : List Carry) → Adds n a b → Adds n b c → Adds n a c
+adds_both n a b c one two = record {
+  more = one.more ++ two.more;
+  is = two.is ∙ ap (λ xs. xs ++ two.more) one.is ∙ append_assoc a one.more two.more;
+  late = All-append (λ (x : Carry). n ≤ x.packet) one.more two.more one.late two.late;
+}

@@ -8,5 +8,6 @@ pub mod Running
 pub mod Twinning
 pub mod Choosing
 pub mod Allowing
+pub mod Pairing
 pub mod Arrivals
 pub mod Cargo

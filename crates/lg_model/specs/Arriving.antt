@@ -10,6 +10,7 @@ use Rattle.lg_model.specs.declared.scenario.Fate.{Fate}
 use Rattle.lg_model.specs.declared.scenario.Fate.TheVariants as fates
 use Rattle.lg_model.specs.Scenario.{Scenario, no_flow}
 use Rattle.lg_model.specs.Trace.{Packet, packets, packets_of, packets_until}
+use Rattle.lg_model.specs.Matching.{Matched}
 use Rattle.lg_model.specs.Sketch.{column}
 use Rattle.lg_model.specs.Carrying.{Carry}
 
@@ -103,9 +104,9 @@ brought w cs h = for_host h (deliveries w cs (arrivals w))
 abbrev pub brought_to_all : Scenario → List Carry → List Column
 brought_to_all w cs = flat_map (brought w cs) (range_with_len 0 (length w.hosts))
 
--- What lies at the hosts after these deliveries, each column in the form that `show` gives it.
-pub record AreDelivered {X : Type 0} (show : Column → X) (ds : List (ℕ × Column)) (hosts : List (List X)) : Type 0 where
-  pub each : (h : ℕ) → h < length hosts → slice_index_or hosts h [] ≡ map show (for_host h ds)
+-- What lies at the hosts after these deliveries, where `IsOf` says which thing stands for which column.
+pub record AreDelivered {X : Type 0} (IsOf : X → Column → Type 0) (ds : List (ℕ × Column)) (hosts : List (List X)) : Type 0 where
+  pub each : (h : ℕ) → h < length hosts → Matched IsOf (slice_index_or hosts h []) (for_host h ds)
 
 -- The packets before the packet of number k, and those of them that the step at n sent, with their numbers.
 abbrev pub packets_to : Scenario → ℕ → List Packet

@@ -1,5 +1,5 @@
 -- Which packets carry which columns.
-use Rattle.std.specs.Prelude.{◌≡◌, ℕ, ◌+◌, ◌-◌, ◌*◌, ◌%◌, ◌^◌, ◌<◌, Bool, true, false, not, ◌&&◌, ◌==◌, nat_lt, List, [], ◌∷◌, ◌++◌, map, replicate, Option, None, Some, slice_index, if◌then◌else◌, count_by, fold, All, Any}
+use Rattle.std.specs.Prelude.{◌≡◌, ℕ, ◌+◌, ◌-◌, ◌*◌, ◌%◌, ◌^◌, ◌<◌, ◌≤◌, Bool, true, false, not, ◌&&◌, ◌==◌, nat_lt, List, [], ◌∷◌, ◌++◌, map, replicate, Option, None, Some, slice_index, if◌then◌else◌, count_by, fold, All, Any}
 use Rattle.std.specs.List.Sorted.{IsStrictlyIncreasing}
 use Rattle.std.specs.List.{list_any, range_with_len}
 use Rattle.std.specs.Int.{w16, w64, to_be_bytes}
@@ -77,6 +77,12 @@ carry_at w m j = record { packet = m.number; hop = m.hop; switch_at = m.switch_a
 abbrev pub with_choice : Scenario → Meeting → List Carry → Option ℕ → List Carry
 with_choice w m cs None = cs
 with_choice w m cs (Some j) = cs ++ carry_at w m j ∷ []
+
+-- What the meetings of the packet of number n add to the carried list: entries of it or of later packets, behind the others.
+pub record Adds (n : ℕ) (old new : List Carry) : Type 0 where
+  pub more : List Carry
+  pub is : new ≡ old ++ more
+  pub late : All (λ (c : Carry). n ≤ c.packet) more
 
 -- By turns: at an ask whose number the hops left divide, the indexes one after the other.
 abbrev pub turns_answer : (asks hops : ℕ) → Offer → Option ℕ

@@ -1,5 +1,6 @@
 pub mod Placing
 pub mod Scenario
+pub mod Matching
 pub mod Trace
 pub mod Sketch
 pub mod Bound
