@@ -7,13 +7,15 @@ use Rattle.std.proofs.lemmas.List.{get_or-map, length-replicate, get_or-replicat
 use Rattle.std.proofs.lemmas.List.Elements.{All-nil, All-cons, All-head, All-tail, All-map, All-get_or}
 use Rattle.std.proofs.lemmas.Bool.Decides.{eqb_tells}
 use Rattle.lg_model.specs.declared.column.Bucket.{Bucket}
-use Rattle.flow_key.specs.declared.key.FlowKey.{FlowKey}
 use Rattle.lg_model.specs.Placing.{Shape, place}
 use Rattle.lg_model.specs.Scenario.{Scenario}
 use Rattle.lg_model.specs.Trace.{Observation, seen, sum_of, most_of}
 use Rattle.lg_model.specs.Sketch.{Table, IsTable, bucket_in, bucket_at, zero_bucket, zero_table, raise_by, table_of, frozen, column, MAX_BYTES, MAX_DELAY}
 use Rattle.lg_model.specs.Bound.{IsBound, IsLow, IsAtLeast, Agrees, IsTrueAnswer, LawOfTheAnswer}
-use Rattle.lg_model.specs.Answer.{Look, Value, Unknown, AtMost, Saturated, value_of, known, known_at, answer}
+use Rattle.lg_model.specs.Answer.{Look, value_of, known, known_at, answer}
+use Rattle.lg_model.specs.declared.answer.Value.{Value}
+use Rattle.lg_model.specs.declared.answer.Value.TheVariants.{Unknown, AtMost, Saturated}
+use Rattle.flow_key.specs.declared.key.FlowKey.{FlowKey}
 use Rattle.lg_model.proofs.Bounding.{bound, IsTable-raise, at}
 use Rattle.lg_model.proofs.Limits.{limits, low_in}
 

@@ -7,6 +7,9 @@ use Rattle.std.specs.BTreeMap.{insert_entry, is_at}
 use Rattle.std.specs.Map.{lookup}
 use Rattle.std.specs.Option.{option_map}
 use Rattle.flow_key.specs.declared.key.FlowKey.{FlowKey}
+use Rattle.lg_model.specs.declared.answer.Answer.{Answer}
+use Rattle.lg_model.specs.declared.answer.Value.{Value}
+use Rattle.lg_model.specs.declared.answer.Value.TheVariants.{Unknown, AtMost, Saturated}
 use Rattle.lg_model.specs.declared.column.Bucket.{Bucket}
 use Rattle.lg_model.specs.declared.column.Key.{Key}
 use Rattle.lg_model.specs.Placing.{Shape, place}
@@ -47,22 +50,10 @@ known_at look shape s e f i = option_map (λ buckets. bucket_in buckets i) (look
 abbrev pub known : Look → Shape → ℕ → ℕ → FlowKey → List Bucket
 known look shape s e f = filter_map (known_at look shape s e f) (range_with_len 0 shape.rows)
 
--- A told value: none known, at most that number, or a counter that stands at its last value.
-pub data Value : Type 0 where
-  Unknown : Value
-  AtMost : (n : ℕ) → Value
-  Saturated : Value
-
--- The least of the counters, whose last value is `limit`.
+-- What is told of counters whose last value is `limit`: the least of them, if there is one.
 abbrev pub value_of : ℕ → List ℕ → Value
 value_of limit [] = Unknown
 value_of limit (x ∷ xs) = if fold min x xs == limit then Saturated else AtMost (fold min x xs)
-
--- How many rows are known, the bytes, and the delay in microseconds.
-pub record Answer : Type 0 where
-  pub rows_known : ℕ
-  pub bytes : Value
-  pub delay : Value
 
 -- The answer for a flow at the switch of that name and in that epoch.
 abbrev pub answer : Look → Shape → ℕ → ℕ → FlowKey → Answer

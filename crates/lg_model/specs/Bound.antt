@@ -6,7 +6,9 @@ use Rattle.lg_model.specs.Placing.{Shape, place}
 use Rattle.lg_model.specs.Scenario.{Scenario}
 use Rattle.lg_model.specs.Trace.{Observation, seen, sum_of, most_of}
 use Rattle.lg_model.specs.Sketch.{bucket_at, table_of, column, MAX_BYTES, MAX_DELAY}
-use Rattle.lg_model.specs.Answer.{Look, Value, Unknown, AtMost, Saturated, answer}
+use Rattle.lg_model.specs.Answer.{Look, answer}
+use Rattle.lg_model.specs.declared.answer.Value.{Value}
+use Rattle.lg_model.specs.declared.answer.Value.TheVariants.{Unknown, AtMost, Saturated}
 
 -- The bucket of a flow in row i is not below its true sum and maximum, up to the counters' last values.
 pub record IsBound (shape : Shape) (xs : List Observation) (f : FlowKey) (i : ℕ) : Type 0 where

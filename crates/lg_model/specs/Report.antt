@@ -4,7 +4,10 @@ use Rattle.std.specs.List.{flat_map}
 use Rattle.std.specs.Fmt.{decimal}
 use Rattle.lg_model.specs.declared.scenario.Ask.{Ask}
 use Rattle.lg_model.specs.Scenario.{Scenario, flow_at}
-use Rattle.lg_model.specs.Answer.{Answer, Content, look_in, Value, Unknown, AtMost, Saturated, answer}
+use Rattle.lg_model.specs.declared.answer.Answer.{Answer}
+use Rattle.lg_model.specs.Answer.{Content, look_in, answer}
+use Rattle.lg_model.specs.declared.answer.Value.{Value}
+use Rattle.lg_model.specs.declared.answer.Value.TheVariants.{Unknown, AtMost, Saturated}
 
 abbrev pub value_text : Value → List ℕ
 value_text Unknown = codes "unknown"

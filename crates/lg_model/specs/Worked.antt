@@ -1,20 +1,24 @@
 -- The definitions at worked scenarios, by computation.
 use Rattle.std.specs.Prelude.{◌≡◌, ℕ, List, [], ◌∷◌, map, length}
 use Rattle.flow_key.specs.declared.key.FlowKey.{FlowKey}
-use Rattle.lg_model.specs.declared.scenario.Hash.TheVariants.{Ports}
+use Rattle.lg_model.specs.UNKNOWN.{Ports}
 use Rattle.lg_model.specs.declared.scenario.HostLine.{HostLine}
 use Rattle.lg_model.specs.declared.scenario.Flow.{Flow}
 use Rattle.lg_model.specs.declared.scenario.Ask.{Ask}
-use Rattle.lg_model.specs.declared.scenario.Pick.TheVariants as picks
 use Rattle.lg_model.specs.declared.scenario.Step.{Step}
-use Rattle.lg_model.specs.declared.scenario.Step.TheVariants.{Packet, End, EndAll, Release}
+use Rattle.lg_model.specs.Trace.{Packet}
+use Rattle.lg_model.specs.declared.scenario.Step.TheVariants.{End, EndAll, Release}
 use Rattle.lg_model.specs.declared.scenario.Fate.{Fate}
 use Rattle.lg_model.specs.declared.scenario.Fate.TheVariants.{Straight, Lost, Twice, Late}
 use Rattle.lg_model.specs.Scenario.{Scenario}
 use Rattle.lg_model.specs.Carrying.{picked}
 use Rattle.lg_model.specs.Arriving.{brought_to_all, arrivals}
-use Rattle.lg_model.specs.Answer.{Answer, Value, Unknown, AtMost, Saturated, content_of}
+use Rattle.lg_model.specs.declared.answer.Answer.{Answer}
+use Rattle.lg_model.specs.declared.answer.Value.{Value}
+use Rattle.lg_model.specs.declared.answer.Value.TheVariants.{Unknown, AtMost, Saturated}
+use Rattle.lg_model.specs.Answer.{content_of}
 use Rattle.lg_model.specs.Report.{answered}
+use Rattle.lg_model.specs.declared.scenario.Pick.TheVariants as picks
 
 -- What is told of a scenario: the number of columns, and an answer for each ask.
 pub record Told : Type 0 where
@@ -76,7 +80,7 @@ two rest = network 1 (1 ∷ 2 ∷ []) (flow 1 2 1 (0 ∷ 1 ∷ []) ∷ []) (Pack
 abbrev pub on_both : Fate → Step
 on_both fate = Packet 0 100 (5 ∷ 5 ∷ []) 1 fate
 
--- Packets that arrive twice, and late ones, which a release lets go, the last one first.
+-- steps.Packet that arrive twice, and late ones, which a release lets go, the last one first.
 abbrev pub late : Scenario
 late = four (send 0 100 10 Straight ∷ send 1 50 30 Straight ∷ End 0 ∷ send 0 10 1 Twice ∷ send 0 10 1 Late ∷ send 0 10 1 Late ∷ Release ∷ []) three_asks
 

@@ -8,14 +8,17 @@
 //! | [`Hash`] | how the places of a flow are found |
 //! | [`HostLine`], [`Flow`], [`Step`], [`Ask`], [`Pick`] | the parts of a scenario |
 //! | [`Letter`], [`Fate`] | what a link does to uploads, and what becomes of a packet |
+//! | [`Answer`], [`Value`] | what is told of a flow |
 //! | [`Letters`], [`Path`], [`Delays`] | short lists within these parts |
 #![tactic(auto)]
 
+mod answer;
 mod column;
 mod laws;
 mod lists;
 mod scenario;
 
+pub use answer::{Answer, Value};
 pub use column::{Bucket, Dims, Key};
 pub use laws::{
     answers_are_true, counters_are_bounds, counters_stay_low, frozen_is_settled, worked_scenarios,
