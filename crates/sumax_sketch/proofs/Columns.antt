@@ -1,7 +1,7 @@
 -- Columns of a table, and tables with other columns.
 use Rattle.std.specs.Prelude.{◌≡◌, ℕ, ◌+◌, ◌-◌, ◌<◌, ◌≤◌, List, [], length, map, take, drop, replicate, slice_index_or}
 use Rattle.std.specs.List.{enumerate_from}
-use Rattle.std.proofs.Common.{refl, sym, ap, ◌∙◌, zero-add, arith, ext_get_or, length-take, get_or-take}
+use Rattle.std.proofs.Common.{sym, ap, ◌∙◌, zero-add, arith, ext_get_or, length-take, get_or-take}
 use Rattle.std.proofs.lemmas.List.{get_or-map, length-map, length-set, length-drop, get_or-drop, length-replicate, get_or-replicate}
 use Rattle.std.proofs.lemmas.List.FromFn.{length-enumerate_from, get_or-enumerate_from}
 use Rattle.lg_model.specs.declared.column.Bucket.{Bucket}
