@@ -6,6 +6,8 @@
 //! | [`Twins`] | the two sketches, the epoch, and how often each column of the frozen one was put out |
 #![tactic(auto)]
 
+#[cfg(test)]
+mod tests;
 mod twins;
 
 pub use twins::Twins;

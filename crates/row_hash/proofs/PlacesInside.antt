@@ -1,7 +1,6 @@
 -- The places of a flow: one a row, and each below the width.
-use Rattle.std.specs.Prelude.{◌≡◌, ℕ, ◌<◌, length, map, All, slice_index_or}
-use Rattle.std.specs.List.{range_with_len}
-use Rattle.std.proofs.Common.{arith, mod-lt, subst, sym, zero-add}
+use Rattle.std.specs.Prelude.{◌≡◌, ℕ, ◌<◌, length, All}
+use Rattle.std.proofs.Common.{mod-lt, subst, sym, zero-add}
 use Rattle.std.proofs.lemmas.List.FromFn.{length-map-range_with_len, get_or-map-range_with_len}
 use Rattle.std.proofs.lemmas.List.Elements.{All-from_get_or}
 use Rattle.flow_key.specs.declared.key.FlowKey.{FlowKey}

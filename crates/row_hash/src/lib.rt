@@ -11,6 +11,8 @@
 mod hashing;
 mod row_places;
 mod shape;
+#[cfg(test)]
+mod tests;
 
 pub use hashing::places;
 pub use lg_model::Hash;

@@ -6,7 +6,7 @@ use lg_model::Hash;
 use std::marker::Model;
 
 /// The size of a sketch, and how it finds the places of a flow: 1 to 8 rows, 1 to 4,096 buckets a row, and a hash.
-#[derive(Clone, Copy, Debug)]
+#[derive(Clone, Copy, Debug, PartialEq, Eq)]
 pub struct Shape {
     rows: u8,
     width: u16,

@@ -7,6 +7,8 @@
 #![tactic(auto)]
 
 mod row;
+#[cfg(test)]
+mod tests;
 
 pub use lg_model::Bucket;
 pub use row::step;

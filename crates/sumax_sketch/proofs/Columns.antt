@@ -1,7 +1,7 @@
 -- Columns of a table, and tables with other columns.
 use Rattle.std.specs.Prelude.{◌≡◌, ℕ, ◌+◌, ◌-◌, ◌<◌, ◌≤◌, List, [], length, map, take, drop, replicate, slice_index_or}
 use Rattle.std.specs.List.{enumerate_from}
-use Rattle.std.proofs.Common.{refl, sym, ap, ◌∙◌, zero-add, arith, ext_get_or, length-take, get_or-take}
+use Rattle.std.proofs.Common.{sym, ap, ◌∙◌, zero-add, arith, ext_get_or, length-take, get_or-take}
 use Rattle.std.proofs.lemmas.List.{get_or-map, length-map, length-set, length-drop, get_or-drop, length-replicate, get_or-replicate}
 use Rattle.std.proofs.lemmas.List.FromFn.{length-enumerate_from, get_or-enumerate_from}
 use Rattle.lg_model.specs.declared.column.Bucket.{Bucket}
@@ -48,8 +48,8 @@ pub zeros_of_shape : (shape : Shape) (t : Table) → IsTable shape t → map (λ
 zeros_of_shape shape t is =
     ext_get_or [] (map zeros t) (zero_table shape) (length-map t zeros ∙ is.rows ∙ sym (length-replicate shape.rows (replicate shape.width zero_bucket)))
     (λ k h. let in_t : k < length t = omega (arith, length-map t zeros) in
-        let in_shape : k < shape.rows = omega (arith, is.rows) in
-        get_or-map zeros t k [] [] in_t ∙ ap (λ n. replicate n zero_bucket) (is.width k in_shape) ∙ sym (get_or-replicate shape.rows k (replicate shape.width zero_bucket) [] in_shape))
+    let in_shape : k < shape.rows = omega (arith, is.rows) in
+    get_or-map zeros t k [] [] in_t ∙ ap (λ n. replicate n zero_bucket) (is.width k in_shape) ∙ sym (get_or-replicate shape.rows k (replicate shape.width zero_bucket) [] in_shape))
 
 -- eight buckets of which the first are those of the rows at an index
 pub column_by_rows : (j : ℕ) (t : Table) (buckets : List Bucket) → length buckets ≡ 8 → length t ≤ 8 →
@@ -59,7 +59,7 @@ column_by_rows j t buckets eight few each =
     let len : length (take (length t) buckets) ≡ length t = omega (arith, length-take (length t) buckets) in
     ext_get_or zero_bucket (take (length t) buckets) (column_at t j) (len ∙ sym (length-map t f))
     (λ k h. let in_t : k < length t = omega (arith, len) in
-        get_or-take (length t) buckets k zero_bucket in_t ∙ each k in_t ∙ sym (get_or-map f t k [] zero_bucket in_t))
+    get_or-take (length t) buckets k zero_bucket in_t ∙ each k in_t ∙ sym (get_or-map f t k [] zero_bucket in_t))
 
 -- eight buckets of which those past the rows are zeros
 pub rest_by_rows : (t : Table) (buckets : List Bucket) → length buckets ≡ 8 → length t ≤ 8 →
@@ -69,8 +69,8 @@ rest_by_rows t buckets eight few each =
     let len : length (drop n buckets) ≡ 8 - n = omega (arith, length-drop n buckets) in
     ext_get_or zero_bucket (drop n buckets) (replicate (8 - n) zero_bucket) (len ∙ sym (length-replicate (8 - n) zero_bucket))
     (λ k h. let in_rest : k < 8 - n = omega (arith, len) in
-        let past : n ≤ n + k = omega arith in
-        get_or-drop n buckets k zero_bucket ∙ each (n + k) past ∙ sym (get_or-replicate (8 - n) k zero_bucket zero_bucket in_rest))
+    let past : n ≤ n + k = omega arith in
+    get_or-drop n buckets k zero_bucket ∙ each (n + k) past ∙ sym (get_or-replicate (8 - n) k zero_bucket zero_bucket in_rest))
 
 pub IsTable-zeros : (shape : Shape) → IsTable shape (zero_table shape)
 IsTable-zeros shape = record {

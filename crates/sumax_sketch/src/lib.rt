@@ -9,6 +9,8 @@
 mod row;
 mod rows;
 mod sketch;
+#[cfg(test)]
+mod tests;
 
 pub use sketch::Sketch;
 pub use sumax_row::Bucket;

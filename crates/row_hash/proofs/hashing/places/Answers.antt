@@ -1,4 +1,4 @@
-use Rattle.std.proofs.Common.{◌≡◌, ◌≢◌, ◌<◌, ◌∙◌, ℕ, get_or, length, take, map, arith, length-take, get_or-take, get_or-set_other, get_or-set_same, below_more, length-set}
+use Rattle.std.proofs.Common.{◌≡◌, ◌≢◌, ◌<◌, ◌∙◌, length, take, map, arith, length-take, get_or-take, get_or-set_other, get_or-set_same, below_more, length-set}
 use Rattle.std.specs.List.{range_with_len}
 use Rattle.std.proofs.lemmas.List.FromFn.{fill_by_all}
 use Rattle.lg_model.specs.Placing.{place}

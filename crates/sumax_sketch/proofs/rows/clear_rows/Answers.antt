@@ -1,4 +1,4 @@
-use Rattle.std.proofs.Common.{◌≡◌, ◌<◌, length, arith}
+use Rattle.std.proofs.Common.{◌<◌, arith}
 use Rattle.sumax_sketch.proofs.Columns.{zeros_by_rows}
 use Rattle.sumax_sketch.proofs.rows.clear_rows.Goals as goal
 

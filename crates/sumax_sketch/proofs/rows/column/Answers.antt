@@ -1,4 +1,4 @@
-use Rattle.std.proofs.Common.{◌≡◌, ◌<◌, ◌≤◌, length, arith}
+use Rattle.std.proofs.Common.{◌<◌, ◌≤◌, arith}
 use Rattle.sumax_sketch.proofs.Columns.{column_by_rows, rest_by_rows}
 use Rattle.sumax_sketch.proofs.rows.column.Goals as goal
 

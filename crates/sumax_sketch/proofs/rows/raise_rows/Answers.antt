@@ -1,4 +1,4 @@
-use Rattle.std.proofs.Common.{◌≡◌, ◌≢◌, ◌<◌, ◌≤◌, ◌+◌, ◌∙◌, ℕ, [], length, arith, le_refl, length-set, get_or-set_other, get_or-set_same, below_more, slice_index_or}
+use Rattle.std.proofs.Common.{◌≡◌, ◌≢◌, ◌<◌, ◌≤◌, ◌∙◌, [], length, arith, le_refl, length-set, get_or-set_other, get_or-set_same, below_more, slice_index_or}
 use Rattle.std.specs.Prelude.{slice_index}
 use Rattle.std.proofs.lemmas.List.{get_or_default}
 use Rattle.lg_model.proofs.Raising.{row_of, step_at, raise_by_rows}

@@ -1,7 +1,7 @@
 use Rattle.std.specs.Prelude.{slice_index}
-use Rattle.std.proofs.Common.{◌≡◌, ◌∙◌, sym, subst, length, arith}
+use Rattle.std.proofs.Common.{◌≡◌, sym, subst, length, arith}
 use Rattle.std.proofs.lemmas.List.{with_items_is}
-use Rattle.lg_model.specs.Sketch.{IsTable, raise}
+use Rattle.lg_model.specs.Sketch.{IsTable}
 use Rattle.lg_model.proofs.Bounding.{IsTable-raise}
 use Rattle.sumax_sketch.proofs.sketch.Sketch.update.Goals as goal
 
