@@ -1,13 +1,12 @@
 -- The definitions at worked scenarios, by computation.
 use Rattle.std.specs.Prelude.{◌≡◌, ℕ, List, [], ◌∷◌, map, length}
 use Rattle.flow_key.specs.declared.key.FlowKey.{FlowKey}
-use Rattle.lg_model.specs.UNKNOWN.{Ports}
+use Rattle.lg_model.specs.declared.scenario.Hash.TheVariants.{Ports}
 use Rattle.lg_model.specs.declared.scenario.HostLine.{HostLine}
 use Rattle.lg_model.specs.declared.scenario.Flow.{Flow}
 use Rattle.lg_model.specs.declared.scenario.Ask.{Ask}
 use Rattle.lg_model.specs.declared.scenario.Step.{Step}
-use Rattle.lg_model.specs.Trace.{Packet}
-use Rattle.lg_model.specs.declared.scenario.Step.TheVariants.{End, EndAll, Release}
+use Rattle.lg_model.specs.declared.scenario.Step.TheVariants.{Packet, End, EndAll, Release}
 use Rattle.lg_model.specs.declared.scenario.Fate.{Fate}
 use Rattle.lg_model.specs.declared.scenario.Fate.TheVariants.{Straight, Lost, Twice, Late}
 use Rattle.lg_model.specs.Scenario.{Scenario}
