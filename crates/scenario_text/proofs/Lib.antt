@@ -1,0 +1,5 @@
+pub mod ReaderLemmas
+pub mod SpentLemmas
+pub mod ReadLemmas
+pub mod TookLemmas
+pub mod DecidingLemmas

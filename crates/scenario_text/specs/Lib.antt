@@ -1,0 +1,3 @@
+pub mod Sources
+pub mod Text
+pub mod Reading

@@ -1,0 +1,8 @@
+//! Laws over the definitions, each on a function with an empty body.
+ghost use Rattle.std.specs.Prelude.{◌≡◌, ℕ, List};
+ghost use Rattle.scenario_text.specs.Text.{reading, deciding};
+
+/// The deciding prefix of an input says what the whole input says.
+pub fn prefix_decides()
+    ensures { (input : List ℕ) → reading (deciding input) ≡ reading input }
+{}
