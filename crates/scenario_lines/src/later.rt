@@ -54,6 +54,21 @@ fn text_behind_path(text: Option<&[u8]>) -> Option<&[u8]>
     None
 }
 
+fn has_two_words(text: Option<&[u8]>) -> bool
+    ensures { result ≡ nat_lt 1 (length (words_left 32 (option_copied text.entry))) }
+{
+    match text {
+        None => false,
+        Some(text) => match words::cut(text, b' ') {
+            (_, None) => false,
+            (_, Some(rest)) => {
+                let (_, _) = words::cut(rest, b' ');
+                true
+            }
+        },
+    }
+}
+
 impl Draft {
     #[tactic(auto, unfolding(crate::specs::Line::is_second))]
     fn is_second(&self, line: &[u8]) -> bool
@@ -76,20 +91,5 @@ impl Draft {
         ensures { result ≡ is_not_built (view self.now) (words_at 32 line.now) }
     {
         has_later_word(Some(line)) || self.is_second(line)
-    }
-}
-
-fn has_two_words(text: Option<&[u8]>) -> bool
-    ensures { result ≡ nat_lt 1 (length (words_left 32 (option_copied text.entry))) }
-{
-    match text {
-        None => false,
-        Some(text) => match words::cut(text, b' ') {
-            (_, None) => false,
-            (_, Some(rest)) => {
-                let (_, _) = words::cut(rest, b' ');
-                true
-            }
-        },
     }
 }

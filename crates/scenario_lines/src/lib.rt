@@ -22,6 +22,8 @@ mod names;
 mod section;
 mod steps;
 mod tail;
+#[cfg(test)]
+mod tests;
 mod why;
 
 pub use draft::Draft;

@@ -3,3 +3,4 @@ pub mod SpentLemmas
 pub mod ReadLemmas
 pub mod TookLemmas
 pub mod DecidingLemmas
+pub mod WorkedTexts

@@ -12,9 +12,11 @@ mod laws;
 mod reader;
 mod reading;
 mod scenario;
+#[cfg(test)]
+mod tests;
 
 pub use fault::ScenarioFault;
-pub use laws::prefix_decides;
+pub use laws::{prefix_decides, worked_texts};
 pub use reading::read;
 pub use scenario::Scenario;
 pub use scenario_lines::Why;
