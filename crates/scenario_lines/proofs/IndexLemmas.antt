@@ -1,5 +1,5 @@
 -- Looking a name up in a table of places.
-use Rattle.std.proofs.Common.{◌≡◌, ◌≢◌, ℕ, suc, ◌+◌, ◌<◌, ◌≤◌, Bool, true, false, cond, eqb, ltb, leb, zero, List, [], ◌∷◌, ◌++◌, length, map, get_or, take, set, Option, Some, None, refl, sym, ap, subst, ◌∙◌, arith, not, length-append, length-take, length-set, ◌⊎◌, inl, inr}
+use Rattle.std.proofs.Common.{◌≡◌, ◌≢◌, ℕ, suc, ◌<◌, ◌≤◌, Bool, true, false, cond, eqb, ltb, zero, List, [], ◌∷◌, ◌++◌, length, get_or, take, set, Some, None, refl, sym, ap, subst, ◌∙◌, arith, length-append, length-take, length-set, ◌⊎◌, inl, inr}
 use Rattle.std.proofs.Math.Seq.{get_or-append_seam}
 use Rattle.std.proofs.lemmas.Bool.{cases_lt, ltb-false}
 use Rattle.std.proofs.lemmas.List.{get_or-take, get_or_append_left, get_or-set_other, get_or-set_same, get_or-map, map-append, length-map}
@@ -7,7 +7,6 @@ use Rattle.lg_model.specs.declared.scenario.Flow.{Flow}
 use Rattle.scenario_lines.specs.Counts.{names_of}
 use Rattle.std.specs.List.{position, position_or_len}
 use Rattle.std.proofs.lemmas.List.Sums.{position_or_len_is}
-use Rattle.std.proofs.lemmas.Grind.{common_steps}
 use Rattle.scenario_lines.specs.Index.{IsIndexed}
 
 pub position_is : (p : ℕ → Bool) (xs : List ℕ) (i : ℕ) → i < length xs → p (get_or xs i 0) ≡ true → ((k : ℕ) → k < i → p (get_or xs k 0) ≡ false) → position p xs ≡ Some i

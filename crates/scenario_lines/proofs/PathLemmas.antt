@@ -1,9 +1,9 @@
 -- A path, hop by hop.
-use Rattle.std.proofs.Common.{◌≡◌, ℕ, List, [], ◌∷◌, ◌++◌, Result, Ok, Err, refl, sym, ap, subst, ◌∙◌}
+use Rattle.std.proofs.Common.{◌≡◌, ℕ, List, [], ◌∷◌, ◌++◌, Result, Ok, Err, refl, sym, ap, ◌∙◌}
 use Rattle.scenario_lines.specs.declared.why.Why.{Why}
 use Rattle.scenario_lines.specs.declared.fault.LineFault.{LineFault}
 use Rattle.scenario_lines.specs.declared.fault.LineFault.TheVariants as faults
-use Rattle.scenario_lines.specs.Fields.{◌>>=◌, Fails, hop, path}
+use Rattle.scenario_lines.specs.Fields.{Fails, hop, path}
 
 pub path_more : (switches sofar w : List ℕ) (ws words : List (List ℕ)) (at : ℕ) (total : Result (List ℕ) Why) → words ≡ w ∷ ws → hop switches sofar w ≡ Ok at → path switches sofar words ≡ total → path switches (sofar ++ at ∷ []) ws ≡ total
 unfolding path

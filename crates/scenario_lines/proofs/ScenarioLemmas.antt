@@ -1,5 +1,5 @@
 -- What one line adds leaves parts that fit each other.
-use Rattle.std.proofs.Common.{◌≡◌, ℕ, suc, zero, ◌+◌, ◌<◌, ◌≤◌, List, [], ◌∷◌, ◌++◌, length, length-append, get_or, set, length-set, refl, sym, ap, subst, ◌∙◌, arith, true, false, cond, Bool, ◌⊎◌, inl, inr}
+use Rattle.std.proofs.Common.{◌≡◌, ℕ, suc, zero, ◌+◌, ◌<◌, ◌≤◌, List, [], ◌∷◌, ◌++◌, length, length-append, get_or, length-set, refl, ap, ◌∙◌, arith, true, false, cond, Bool, ◌⊎◌, inl, inr}
 use Rattle.std.specs.Prelude.{slice_get, Option, Some, None, All, ◌&&◌, nat_lt}
 use Rattle.std.proofs.lemmas.Bool.{cases_lt}
 use Rattle.std.proofs.lemmas.List.{get_or_append_left}
@@ -7,19 +7,18 @@ use Rattle.std.proofs.lemmas.List.Elements.{All-push}
 use Rattle.lg_model.specs.declared.scenario.Flow.{Flow}
 use Rattle.lg_model.specs.declared.scenario.Step.{Step}
 use Rattle.lg_model.specs.declared.scenario.Step.TheVariants as steps
-use Rattle.lg_model.specs.declared.scenario.Fate.{Fate}
 use Rattle.lg_model.specs.declared.scenario.Ask.{Ask}
 use Rattle.lg_model.specs.declared.scenario.Pick.{Pick}
 use Rattle.lg_model.specs.declared.scenario.HostLine.{HostLine}
 use Rattle.lg_model.specs.declared.scenario.Letter.{Letter}
 use Rattle.lg_model.specs.Placing.{Shape, IsShape}
-use Rattle.lg_model.specs.Scenario.{IsScenario, IsFlow, IsStep, IsAsk, flow_at, no_flow, reached, packet_count, burst_of, is_end_of}
+use Rattle.lg_model.specs.Scenario.{IsFlow, IsStep, IsAsk, flow_at, no_flow, packet_count, burst_of, is_end_of}
 use Rattle.scenario_lines.specs.declared.section.Section.{Section}
 use Rattle.scenario_lines.specs.declared.section.Section.TheVariants.{First, Second, Third, Declarations, Steps, Done}
 use Rattle.scenario_lines.specs.declared.section.Keyword.TheVariants as words
 use Rattle.scenario_lines.specs.Sections.{has_steps, has_place, is_first}
-use Rattle.scenario_lines.specs.Counts.{ends_of, path_at}
-use Rattle.scenario_lines.specs.Draft.{State, IsDraft, scenario_of}
+use Rattle.scenario_lines.specs.Counts.{ends_of}
+use Rattle.scenario_lines.specs.Draft.{State, IsDraft}
 use Rattle.scenario_lines.specs.Fields.{all_room}
 use Rattle.scenario_lines.specs.Line.{linked, linked_at}
 use Rattle.scenario_lines.proofs.CountLemmas.{ends_more, packets_more}

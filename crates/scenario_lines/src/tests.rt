@@ -1,28 +1,23 @@
 //! Lines taken one after the other, and the texts of the whys.
 
 use crate::{Draft, LineFault, Section, Why};
-use std::process::Abort;
 use std::test::Fail;
 
 #[test]
 fn lines_of_a_small_text(rt: HostRuntime) -> Result<(), Fail> {
     let mut draft = Draft::new(rt.alloc());
-    for line in [
-        "guardian 1",
-        "",
-        "# a comment",
-        "shape 2 1 ports",
-        "pick turns",
-        "host 1",
-        "switch 7",
-        "flow 3 10.0.0.1 10.0.0.2 6 2 1 host 1 path 7",
-        "packet 3 1500 20",
-        "end 7",
-        "ask 3 7 0",
-    ] {
-        assert!(rt; !draft.is_done());
-        draft.line(line.as_bytes())?;
-    }
+    draft.line(b"guardian 1")?;
+    draft.line(b"")?;
+    draft.line(b"# a comment")?;
+    draft.line(b"shape 2 1 ports")?;
+    draft.line(b"pick turns")?;
+    draft.line(b"host 1")?;
+    draft.line(b"switch 7")?;
+    draft.line(b"flow 3 10.0.0.1 10.0.0.2 6 2 1 host 1 path 7")?;
+    draft.line(b"packet 3 1500 20")?;
+    draft.line(b"end 7")?;
+    draft.line(b"ask 3 7 0")?;
+    assert!(rt; !draft.is_done());
     assert_eq!(rt; draft.section, Section::Steps);
     assert_eq!(rt; draft.line(b"host 2"), Err(LineFault::Bad(Why::NotYet)));
     Ok(())
@@ -31,9 +26,10 @@ fn lines_of_a_small_text(rt: HostRuntime) -> Result<(), Fail> {
 #[test]
 fn the_last_line(rt: HostRuntime) -> Result<(), Fail> {
     let mut draft = Draft::new(rt.alloc());
-    for line in ["guardian 1", "shape 8 4096 ports", "pick turns", "done"] {
-        draft.line(line.as_bytes())?;
-    }
+    draft.line(b"guardian 1")?;
+    draft.line(b"shape 8 4096 ports")?;
+    draft.line(b"pick turns")?;
+    draft.line(b"done")?;
     assert!(rt; draft.is_done());
     Ok(())
 }

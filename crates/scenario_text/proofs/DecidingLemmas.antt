@@ -77,7 +77,7 @@ cut_said xs k front b c n s lt =
     let d : decide s (words_at 10 xs) ≡ (length k.line + 1) + after_len (line_of s (strip_carriage_return k.line)) (λ t. decide t (words_at 10 k.more)) = ap (λ (ys : List ℕ). decide s (words_at 10 ys)) k.is ∙ decide_ends s k.line k.more k.unbroken in
     let small : (length k.line + 1) + after_len (line_of s (strip_carriage_return k.line)) (λ t. decide t (words_at 10 k.more)) < length (k.line ++ 10 ∷ k.more) = omega (arith, lt, d, ap length k.is) in
     let front_is : take (decide s (words_at 10 xs)) xs ≡ k.line ++ 10 ∷ take (after_len (line_of s (strip_carriage_return k.line)) (λ t. decide t (words_at 10 k.more))) k.more
-          = ap (λ (m : ℕ). take m xs) d ∙ ap (λ (ys : List ℕ). take ((length k.line + 1) + after_len (line_of s (strip_carriage_return k.line)) (λ t. decide t (words_at 10 k.more))) ys) k.is ∙ take_past k.line k.more _ in
+    = ap (λ (m : ℕ). take m xs) d ∙ ap (λ (ys : List ℕ). take ((length k.line + 1) + after_len (line_of s (strip_carriage_return k.line)) (λ t. decide t (words_at 10 k.more))) ys) k.is ∙ take_past k.line k.more _ in
     ap (λ (ys : List ℕ). lines_say b n s (words_at 10 ys)) front_is
     ∙ ends b n s k.line (take (after_len (line_of s (strip_carriage_return k.line)) (λ t. decide t (words_at 10 k.more))) k.more) k.unbroken
     ∙ line_said b c n k.line k.more (line_of s (strip_carriage_return k.line)) front small

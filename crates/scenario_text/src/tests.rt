@@ -11,13 +11,15 @@ use std::alloc::Global;
 use std::process::Abort;
 use std::test::Fail;
 
-const FIRST: &str = "guardian 1\nshape 2 1 ports\npick turns\nhost 1\nswitch 1\nflow 1 10.0.0.1 10.0.0.2 6 2 1 host 1 path 1\npacket 1 1500 20\nend 1\npacket 1 100 5\nask 1 1 0\ndone\n";
+const FIRST: &str =
+    "guardian 1\nshape 2 1 ports\npick turns\nhost 1\nswitch 1\nflow 1 10.0.0.1 10.0.0.2 6 2 1 host 1 path 1\npacket 1 1500 20\nend 1\npacket 1 100 5\nask 1 1 0\ndone\n";
 
 // The three first lines, and a host and a switch of the name 1.
 const HEAD: &str = "guardian 1\nshape 2 1 ports\npick turns\nhost 1\nswitch 1\n";
 
 // The head and a flow.
-const FLOW: &str = "guardian 1\nshape 2 1 ports\npick turns\nhost 1\nswitch 1\nflow 1 10.0.0.1 10.0.0.2 6 2 1 host 1 path 1\n";
+const FLOW: &str =
+    "guardian 1\nshape 2 1 ports\npick turns\nhost 1\nswitch 1\nflow 1 10.0.0.1 10.0.0.2 6 2 1 host 1 path 1\n";
 
 fn source(alloc: Global, text: &[u8], piece: usize) -> Result<MemorySource, Fail>
     requires { 0 < piece }
@@ -46,7 +48,10 @@ fn the_first_scenario(rt: HostRuntime) -> Result<(), Fail> {
         let mut source = source(rt.alloc(), FIRST.as_bytes(), piece)?;
         let scenario = read(rt.alloc(), &mut source)?;
         let shape = scenario.shape();
-        assert_eq!(rt; (shape.rows(), shape.width(), shape.hash()), (2, 1, Hash::Ports));
+        assert_eq!(rt;
+            (shape.rows(), shape.width(), shape.hash()),
+            (2, 1, Hash::Ports)
+        );
         assert_eq!(rt; *scenario.pick(), Pick::Turns);
         assert_eq!(rt; scenario.hosts().len(), 1);
         assert_eq!(rt; scenario.hosts()[0].name, 1);
@@ -76,7 +81,14 @@ fn the_steps_of_the_first_scenario(rt: HostRuntime) -> Result<(), Fail> {
     };
     assert_eq!(rt; *switch_at, 0);
     for (step, want_size, delay) in [(first, 1500, 20), (last, 100, 5)] {
-        let Step::Packet { flow_at, size, delays, burst, fate } = step else {
+        let Step::Packet {
+            flow_at,
+            size,
+            delays,
+            burst,
+            fate,
+        } = step
+        else {
             return Err("no packet")?;
         };
         assert_eq!(rt; (*flow_at, *size, *burst), (0, want_size, 1));
@@ -104,14 +116,32 @@ fn whole_texts(rt: HostRuntime) -> Result<(), Fail> {
         ("guardian 1\nshape 0 1 ports\n", bad(2, Why::BadNumber)),
         ("guardian 1\nshape 9 1 ports\n", bad(2, Why::BadNumber)),
         ("guardian 1\nshape 8 4096 ports\n", bad(3, Why::NoDone)),
-        ("guardian 1\nshape 2 1 ports\npick chance 1\n", bad(3, Why::NotYet)),
+        (
+            "guardian 1\nshape 2 1 ports\npick chance 1\n",
+            bad(3, Why::NotYet),
+        ),
         ("guardian 1\nshape 2 1 ports\npick turns\ndone\n", None),
         ("guardian 1\nshape 2 1 ports\npick turns\ndone", None),
-        ("guardian 1\r\nshape 2 1 ports\r\n\r\npick turns\r\ndone\r\n", None),
-        ("guardian 1\nshape 2 1 ports\npick turns\ndone\r", bad(4, Why::UnknownWord)),
-        ("guardian 1\nshape 2 1 ports\npick turns\ndone done\n", bad(4, Why::WordCount)),
-        ("guardian 1\nshape 2 1 ports\npick turns\ndone\nshape \x00\n\n", None),
-        ("guardian 1\nshape 2 1 ports\ndone\n", bad(3, Why::OutOfPlace)),
+        (
+            "guardian 1\r\nshape 2 1 ports\r\n\r\npick turns\r\ndone\r\n",
+            None,
+        ),
+        (
+            "guardian 1\nshape 2 1 ports\npick turns\ndone\r",
+            bad(4, Why::UnknownWord),
+        ),
+        (
+            "guardian 1\nshape 2 1 ports\npick turns\ndone done\n",
+            bad(4, Why::WordCount),
+        ),
+        (
+            "guardian 1\nshape 2 1 ports\npick turns\ndone\nshape \x00\n\n",
+            None,
+        ),
+        (
+            "guardian 1\nshape 2 1 ports\ndone\n",
+            bad(3, Why::OutOfPlace),
+        ),
     ] {
         assert_eq!(rt; fault(&rt, rt.alloc(), text.as_bytes())?, want, "{text}");
     }
@@ -119,7 +149,12 @@ fn whole_texts(rt: HostRuntime) -> Result<(), Fail> {
 }
 
 // The first faulty line behind these lines.
-fn behind(rt: &impl Abort, alloc: Global, lines: &str, more: &str) -> Result<Option<ScenarioFault>, Fail> {
+fn behind(
+    rt: &impl Abort,
+    alloc: Global,
+    lines: &str,
+    more: &str,
+) -> Result<Option<ScenarioFault>, Fail> {
     let mut text = lines.as_bytes().to_vec(alloc)?;
     text.extend_from_slice(more.as_bytes())?;
     fault(rt, alloc, &text)
@@ -133,17 +168,41 @@ fn declarations(rt: HostRuntime) -> Result<(), Fail> {
         ("link 1 x\n", Why::NotYet),
         ("release\n", Why::NotYet),
         ("end all\n", Why::NotYet),
-        ("flow 1 10.0.0.1 10.0.0.2 6 2 1 host 1 path 1 1\n", Why::NotYet),
+        (
+            "flow 1 10.0.0.1 10.0.0.2 6 2 1 host 1 path 1 1\n",
+            Why::NotYet,
+        ),
         ("flow path a b\n", Why::NotYet),
-        ("flow 1 10.0.0.1 10.0.0.2 6 2 1 host 2 path 1\n", Why::UnknownName),
-        ("flow 1 10.0.0.1 10.0.0.2 6 2 1 host 1 path 2\n", Why::UnknownName),
-        ("flow 1 10.0.0.1 10.0.0.2 6 2 1 host 1 path\n", Why::WordCount),
-        ("flow 1 10.0.0.1 10.0.0.2 6 2 1 host 1 paths 1\n", Why::BadWord),
-        ("flow 1 10.0.0.1 10.0.0.2 6 2 1 hosts 1 path 1\n", Why::BadWord),
+        (
+            "flow 1 10.0.0.1 10.0.0.2 6 2 1 host 2 path 1\n",
+            Why::UnknownName,
+        ),
+        (
+            "flow 1 10.0.0.1 10.0.0.2 6 2 1 host 1 path 2\n",
+            Why::UnknownName,
+        ),
+        (
+            "flow 1 10.0.0.1 10.0.0.2 6 2 1 host 1 path\n",
+            Why::WordCount,
+        ),
+        (
+            "flow 1 10.0.0.1 10.0.0.2 6 2 1 host 1 paths 1\n",
+            Why::BadWord,
+        ),
+        (
+            "flow 1 10.0.0.1 10.0.0.2 6 2 1 hosts 1 path 1\n",
+            Why::BadWord,
+        ),
         ("flow 1 10.0.0.1 x\n", Why::BadKey),
         ("flow 1 10.0.0.1\n", Why::WordCount),
-        ("flow 1 10.0.0.1 10.0.0.2 256 2 1 host 1 path 1\n", Why::BadKey),
-        ("flow 1 10.0.0.1 10.0.0.2 6 2 65536 host 1 path 1\n", Why::BadKey),
+        (
+            "flow 1 10.0.0.1 10.0.0.2 256 2 1 host 1 path 1\n",
+            Why::BadKey,
+        ),
+        (
+            "flow 1 10.0.0.1 10.0.0.2 6 2 65536 host 1 path 1\n",
+            Why::BadKey,
+        ),
         ("flow 65536 x\n", Why::BadNumber),
         ("flow +1 x\n", Why::BadNumber),
         ("flow 01 x\n", Why::BadNumber),
@@ -169,7 +228,10 @@ fn declarations(rt: HostRuntime) -> Result<(), Fail> {
 #[test]
 fn steps(rt: HostRuntime) -> Result<(), Fail> {
     for (line, why) in [
-        ("flow 1 10.0.0.1 10.0.0.2 6 2 1 host 1 path 1\n", Why::Repeated),
+        (
+            "flow 1 10.0.0.1 10.0.0.2 6 2 1 host 1 path 1\n",
+            Why::Repeated,
+        ),
         ("packet 1 1500\n", Why::WordCount),
         ("packet 1 65536 1\n", Why::BadNumber),
         ("packet 2 65536 1\n", Why::UnknownName),
@@ -187,11 +249,19 @@ fn steps(rt: HostRuntime) -> Result<(), Fail> {
     ] {
         assert_eq!(rt; behind(&rt, rt.alloc(), FLOW, line)?, bad(7, why), "{line}");
     }
-    for line in ["flow 2 10.0.0.1 10.0.0.2 6 2 1 host 1 path 1\n", "guardian 1\n", "pick turns\n"] {
+    for line in [
+        "flow 2 10.0.0.1 10.0.0.2 6 2 1 host 1 path 1\n",
+        "guardian 1\n",
+        "pick turns\n",
+    ] {
         let mut text = FLOW.as_bytes().to_vec(rt.alloc())?;
         text.extend_from_slice(b"end 1\n")?;
         text.extend_from_slice(line.as_bytes())?;
-        assert_eq!(rt; fault(&rt, rt.alloc(), &text)?, bad(8, Why::OutOfPlace), "{line}");
+        assert_eq!(rt;
+            fault(&rt, rt.alloc(), &text)?,
+            bad(8, Why::OutOfPlace),
+            "{line}"
+        );
     }
     Ok(())
 }
@@ -207,10 +277,16 @@ fn texts_that_are_long(rt: HostRuntime) -> Result<(), Fail> {
     let mut text = b"guardian 1\n".to_vec(rt.alloc())?;
     text.resize(16_777_215, b'\n')?;
     let mut short = source(rt.alloc(), &text, 4096)?;
-    assert_eq!(rt; read(rt.alloc(), &mut short).err(), bad(16_777_206, Why::NoDone));
+    assert_eq!(rt;
+        read(rt.alloc(), &mut short).err(),
+        bad(16_777_206, Why::NoDone)
+    );
     text.push(b'\n')?;
     let mut long = source(rt.alloc(), &text, 4096)?;
-    assert_eq!(rt; read(rt.alloc(), &mut long).err(), bad(16_777_207, Why::TooLong));
+    assert_eq!(rt;
+        read(rt.alloc(), &mut long).err(),
+        bad(16_777_207, Why::TooLong)
+    );
     Ok(())
 }
 
@@ -219,7 +295,11 @@ fn a_source_that_fails(rt: HostRuntime) -> Result<(), Fail> {
     for failing in [0, 1, 5] {
         let calls = [failing].to_vec(rt.alloc())?;
         let mut source = MemorySource::new(FIRST.as_bytes().to_vec(rt.alloc())?, 7, calls);
-        assert_eq!(rt; read(rt.alloc(), &mut source).err(), Some(ScenarioFault::ReadFault), "{failing}");
+        assert_eq!(rt;
+            read(rt.alloc(), &mut source).err(),
+            Some(ScenarioFault::ReadFault),
+            "{failing}"
+        );
     }
     // The call behind the one that decides is never made.
     let calls = [22].to_vec(rt.alloc())?;

@@ -1,4 +1,4 @@
-use Rattle.std.proofs.Common.{◌≡◌, arith, refl, sym, ap}
+use Rattle.std.proofs.Common.{sym}
 use Rattle.scenario_lines.proofs.IndexLemmas.{found_flow, other_flow, past_flows, past_table}
 use Rattle.scenario_lines.proofs.index.find_flow.Goals as goal
 

@@ -1,4 +1,4 @@
-use Rattle.std.proofs.Common.{◌≡◌, arith, refl, sym, ap}
+use Rattle.std.proofs.Common.{arith}
 use Rattle.scenario_lines.proofs.IndexLemmas.{put}
 use Rattle.scenario_lines.proofs.index.put_flow.Goals as goal
 

@@ -1,4 +1,4 @@
-use Rattle.std.proofs.Common.{arith, length, length-append, ◌<◌, ◌≡◌, ◌∷◌, [], ◌++◌, sym, ap, ◌∙◌}
+use Rattle.std.proofs.Common.{arith, length, length-append, ◌<◌, ◌∷◌, [], ap, ◌∙◌}
 use Rattle.std.specs.Option.{option_copied}
 use Rattle.std.proofs.lemmas.List.Elements.{All-push}
 use Rattle.std.proofs.lemmas.Result.{err_from_is_err_and}

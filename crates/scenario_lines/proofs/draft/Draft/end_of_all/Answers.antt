@@ -1,4 +1,4 @@
-use Rattle.std.proofs.Common.{◌≡◌, ◌∙◌, ◌+◌, ◌∷◌, [], List, ℕ, arith, length, refl, sym, ap}
+use Rattle.std.proofs.Common.{arith, sym}
 use Rattle.scenario_lines.specs.Draft.{view}
 use Rattle.lg_model.specs.declared.scenario.Step.TheVariants.{EndAll}
 use Rattle.scenario_lines.proofs.ScenarioLemmas.{step_more, room_at}

@@ -1,4 +1,4 @@
-use Rattle.std.proofs.Common.{◌<◌, length, ◌≡◌, ◌∷◌, [], arith, refl, sym, ap, ◌∙◌}
+use Rattle.std.proofs.Common.{◌<◌, length, arith, ap}
 use Rattle.lg_model.specs.declared.scenario.Step.TheVariants.{End}
 use Rattle.lg_model.specs.Scenario.{packet_count}
 use Rattle.scenario_lines.proofs.CountLemmas.{end_counted, packets_more}

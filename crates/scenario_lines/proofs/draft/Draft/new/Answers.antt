@@ -1,4 +1,4 @@
-use Rattle.std.proofs.Common.{◌≡◌, ◌∙◌, ◌+◌, ◌∷◌, [], List, ℕ, arith, length, refl, sym, ap}
+use Rattle.std.proofs.Common.{◌∙◌, ◌+◌, sym, ap}
 use Rattle.scenario_lines.specs.Counts.{ends_of}
 use Rattle.scenario_lines.proofs.CountLemmas.{zeros}
 use Rattle.scenario_lines.proofs.draft.Draft.new.Goals as goal
