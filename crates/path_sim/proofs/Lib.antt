@@ -1,0 +1,6 @@
+pub mod Asks
+pub mod Settling
+pub mod Walking
+pub mod Onward
+pub mod Steps
+pub mod Ends

@@ -1,0 +1,7 @@
+pub mod Parts
+pub mod Holding
+pub mod Sending
+pub mod Moving
+pub mod Outcome
+pub mod Arrived
+pub mod Own

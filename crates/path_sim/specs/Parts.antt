@@ -1,0 +1,55 @@
+-- What the network handles, as the definitions speak of it.
+use Rattle.std.specs.Prelude.{◌≡◌, ℕ, ◌+◌, ◌<◌, ◌≤◌, List, [], ◌++◌, map, take, length, slice_index, slice_index_or, Bool, true, false, cond, All, Option, None, Some, if◌then◌else◌}
+use Rattle.lg_model.specs.declared.scenario.Flow.{Flow}
+use Rattle.lg_model.specs.declared.scenario.Fate.{Fate}
+use Rattle.lg_model.specs.declared.scenario.Step.{Step}
+use Rattle.lg_model.specs.declared.scenario.Step.TheVariants as steps
+use Rattle.lg_model.specs.Placing.{Shape}
+use Rattle.lg_model.specs.Scenario.{Scenario}
+use Rattle.lg_model.specs.Matching.{MatchedOption}
+use Rattle.lg_model.specs.Trace.{Packet, Meeting, meetings_in, meetings_of}
+use Rattle.lg_model.specs.Carrying as model
+use Rattle.lg_model.specs.Arriving.{Column, packets_to, packet_at, cargo}
+use Rattle.sketchlet_wire.specs.declared.packed.Packed.{Packed}
+use Rattle.sketchlet_wire.specs.Packing.{IsPacked}
+use Rattle.sketchlet_wire.specs.Carried.{column_data, dims_of}
+use Rattle.path_sim.specs.declared.meeting.Visit.{Visit}
+use Rattle.path_sim.specs.declared.carry.Carry.{Carry}
+
+abbrev pub meeting_is : Visit → Meeting
+meeting_is m = record { number = m.number; step_at = m.step_at; hop = m.hop; hops = m.hops; switch_at = m.switch_at; key = m.key; size = m.size; delay = m.delay }
+
+abbrev pub carry_is : Carry → model.Carry
+carry_is c = record { packet = c.packet; hop = c.hop; switch_at = c.switch_at; epoch = c.epoch; index = c.index }
+
+abbrev pub carried_are : List Carry → List model.Carry
+carried_are cs = map carry_is cs
+
+-- The packed bytes are those of that column, of a sketch of the scenario's shape.
+abbrev pub IsOf : Scenario → Packed → Column → Type 0
+IsOf w p c = IsPacked p (column_data (dims_of w.shape) c)
+
+-- What a packet carries is its cargo.
+abbrev pub IsCargo : Scenario → List model.Carry → ℕ → Option Packed → Type 0
+IsCargo w cs n p = MatchedOption (IsOf w) p (cargo w cs n)
+
+-- 1 where there is something, else 0.
+abbrev pub some_count : {X : Type 0} → Option X → ℕ
+some_count None = 0
+some_count (Some x) = 1
+
+-- The meetings up to that many hops of the packet of that number.
+abbrev pub meetings_to : Scenario → (number hops : ℕ) → List Meeting
+meetings_to w n k = meetings_in (packets_to w n) ++ take k (meetings_of (n, packet_at w n))
+
+-- The column is carried by an earlier packet than that.
+abbrev pub IsBefore : ℕ → model.Carry → Type 0
+IsBefore n c = c.packet < n
+
+-- An entry has the name of its switch.
+abbrev pub IsNamed : Scenario → Carry → Type 0
+IsNamed w c = c.switch ≡ slice_index w.switches c.switch_at
+
+-- The step at a place.
+abbrev pub step_in : Scenario → ℕ → Step
+step_in w n = slice_index_or w.steps n steps.Release

@@ -1,0 +1,5 @@
+pub mod PathLemmas
+pub mod IndexLemmas
+pub mod CountLemmas
+pub mod SizeLemmas
+pub mod ScenarioLemmas

@@ -1,0 +1,12 @@
+-- How many bytes words take.
+use Rattle.std.proofs.Common.{◌≡◌, ℕ, ◌+◌, List, [], ◌∷◌, ◌++◌, length, map, ap, ◌∙◌, arith}
+use Rattle.std.specs.Fmt.{decimal}
+use Rattle.std.proofs.lemmas.List.{map-append}
+use Rattle.scenario_lines.specs.Spelling.{Words, size}
+
+pub size_append : (ws vs : Words) → size (ws ++ vs) ≡ size ws + size vs
+size_append [] vs = omega arith
+size_append (w ∷ ws) vs = omega (arith, size_append ws vs)
+
+pub size_push : (ds : List ℕ) (d : ℕ) → size (map decimal (ds ++ d ∷ [])) ≡ size (map decimal ds) + (length (decimal d) + 1)
+size_push ds d = ap size (map-append decimal ds (d ∷ [])) ∙ size_append (map decimal ds) (decimal d ∷ []) ∙ omega arith

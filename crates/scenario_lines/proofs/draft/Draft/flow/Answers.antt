@@ -1,0 +1,13 @@
+use Rattle.std.proofs.Common.{◌<◌, arith, length, ap}
+use Rattle.lg_model.specs.declared.scenario.Flow.{Flow}
+use Rattle.scenario_lines.specs.Draft.{view}
+use Rattle.scenario_lines.proofs.ScenarioLemmas.{flow_fits, flow_more}
+use Rattle.scenario_lines.proofs.draft.Draft.flow.Goals as goal
+
+pub returns-clause-fits : goal.returns-clause-fits
+returns-clause-fits c =
+    let flow : Flow = record { name = c.in_ok-name.name; key = c.in_ok-key.key; host_at = c.in_ok-host_at.host_at; path = c.new-path.result } in
+    let at : c.in_ok-host_at.host_at < length c.args.self.now.hosts.items = omega (arith, c.in_ok-host_at.ensures.bound, ap length c.deref.ensures.value) in
+    let hops = rw c.deref-2.ensures.value at c.in_ok-hops.ensures.bound in
+    let fits = flow_fits (length c.args.self.now.hosts.items) (length c.args.self.now.switches.items) flow c.in_ok-hops.hops.items c.new-path.ensures at hops c.in_ok-hops.ensures.some c.in_ok-hops.ensures.short in
+    flow_more (view c.args.self.now) c.put_flow.new.flows.items flow c.requires fits c.in_ok-put_flow.ensures.added

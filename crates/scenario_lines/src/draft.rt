@@ -1,0 +1,59 @@
+//! What the lines of a text have said so far.
+ghost use Rattle.std.specs.Prelude.{◌≡◌, ◌≤◌, ◌<◌, ◌+◌, ℕ, vec_len, slice_index};
+ghost use Rattle.lg_model.specs.Scenario.{packet_count};
+ghost use Rattle.scenario_lines.specs.Sections.{is_done};
+ghost use Rattle.scenario_lines.specs.Index.{IsIndexed};
+ghost use Rattle.scenario_lines.specs.Counts.{names_of, ends_of};
+
+use crate::section::Section;
+use lg_model::{Ask, Flow, Hash, HostLine, Pick, Step};
+
+/// What the lines of a text have said so far: the section and the parts, and what is kept to take the next line
+/// without looking through them.
+#[derive(Debug, Drop)]
+pub struct Draft {
+    /// The section that the next line stands in.
+    pub section: Section,
+    /// The rows of the shape.
+    pub rows: u8,
+    /// The buckets of a row.
+    pub width: u16,
+    /// How the places of flows are found.
+    pub hash: Hash,
+    /// How switches choose columns.
+    pub pick: Pick,
+    /// The hosts, in the order of the text.
+    pub hosts: Vec<HostLine>,
+    /// The switches' names.
+    pub switches: Vec<u16>,
+    /// The flows.
+    pub flows: Vec<Flow>,
+    /// The steps.
+    pub steps: Vec<Step>,
+    /// The asks.
+    pub asks: Vec<Ask>,
+    /// The position of each flow, at its name.
+    pub flow_places: Vec<u16>,
+    /// The packets of the steps.
+    pub packets: u32,
+    /// How many steps end an epoch of the switch at each position, without those that end one of every switch.
+    pub ends: [u64; 64],
+    /// How many steps end an epoch of every switch.
+    pub ends_of_all: u64,
+    pub ghost few_hosts: { vec_len hosts ≤ 64 },
+    pub ghost few_switches: { vec_len switches ≤ 64 },
+    pub ghost few_flows: { vec_len flows ≤ 4096 },
+    pub ghost indexed: { IsIndexed (names_of flows.items) flow_places.items },
+    pub ghost counted: { packets ≡ packet_count steps.items },
+    pub ghost few_packets: { packets ≤ 1000000 },
+    pub ghost ended: { (i : ℕ) → i < 64 → slice_index ends i + ends_of_all ≡ ends_of i steps.items },
+}
+
+impl Draft {
+    /// Whether the line `done` came.
+    pub fn is_done(&self) -> bool
+        ensures { result ≡ is_done self.now.section }
+    {
+        matches!(self.section, Section::Done)
+    }
+}

@@ -1,0 +1,104 @@
+//! The start of a text, its three first lines and its last line.
+ghost use Rattle.std.specs.Prelude.{◌≡◌, true, OnOk};
+ghost use Rattle.std.specs.Option.{option_copied};
+ghost use Rattle.flow_key.specs.Words.{words_left};
+ghost use Rattle.scenario_lines.specs.declared.section.Keyword.TheVariants as words;
+ghost use Rattle.scenario_lines.specs.Sections.{is_first, has_place};
+ghost use Rattle.scenario_lines.specs.Draft.{view, start, Fits};
+ghost use Rattle.scenario_lines.specs.Fields.{Leaves};
+ghost use Rattle.scenario_lines.specs.Line.{first_line, shape_line, pick_line, done_line};
+
+use crate::draft::Draft;
+use crate::fault::LineFault;
+use crate::fields::{end_field, hash_field, number_field, pick_field};
+use crate::section::Section;
+use crate::why::Why;
+use flow_key::words::is;
+use lg_model::{Hash, Pick};
+use std::alloc::Global;
+
+impl Draft {
+    /// Before the first line. Takes no memory yet; the parts will lie in memory of this allocator.
+    pub fn new(alloc: Global) -> Draft
+        ensures start { view result ≡ start }
+        ensures fits { Fits result }
+    {
+        Draft {
+            section: Section::First,
+            rows: 1,
+            width: 1,
+            hash: Hash::Ports,
+            pick: Pick::Turns,
+            hosts: Vec::new(alloc),
+            switches: Vec::new(alloc),
+            flows: Vec::new(alloc),
+            steps: Vec::new(alloc),
+            asks: Vec::new(alloc),
+            flow_places: Vec::new(alloc),
+            packets: 0,
+            ends: [0; 64],
+            ends_of_all: 0,
+        }
+    }
+
+    // The first line, given whole.
+    pub(crate) fn first(&mut self, line: &[u8]) -> Result<(), LineFault>
+        requires fits { Fits self.old }
+        requires place { is_first self.old.section ≡ true }
+        ensures fits { OnOk result (Fits self.new) }
+        ensures leaves { Leaves result (view self.new) (first_line (view self.old) line.now) }
+    {
+        if is(line, b"guardian 1") {
+            self.section = Section::Second;
+            Ok(())
+        } else {
+            Err(LineFault::Bad(Why::Version))
+        }
+    }
+
+    // What stands behind `shape`.
+    #[tactic(auto, unfolding(crate::specs::Line::shape_line))]
+    pub(crate) fn shape(&mut self, text: Option<&[u8]>) -> Result<(), LineFault>
+        requires fits { Fits self.old }
+        requires place { has_place self.old.section words.Shape ≡ true }
+        ensures fits { OnOk result (Fits self.new) }
+        ensures leaves { Leaves result (view self.new) (shape_line (view self.old) (words_left 32 (option_copied text.entry))) }
+    {
+        let (rows, text) = number_field(text, 1, 8)?;
+        let (width, text) = number_field(text, 1, 4096)?;
+        let (hash, text) = hash_field(text)?;
+        end_field(text)?;
+        self.section = Section::Third;
+        self.rows = rows as u8;
+        self.width = width as u16;
+        self.hash = hash;
+        Ok(())
+    }
+
+    // What stands behind `pick`.
+    #[tactic(auto, unfolding(crate::specs::Line::pick_line))]
+    pub(crate) fn pick(&mut self, text: Option<&[u8]>) -> Result<(), LineFault>
+        requires fits { Fits self.old }
+        requires place { has_place self.old.section words.Pick ≡ true }
+        ensures fits { OnOk result (Fits self.new) }
+        ensures leaves { Leaves result (view self.new) (pick_line (view self.old) (words_left 32 (option_copied text.entry))) }
+    {
+        let (pick, text) = pick_field(text)?;
+        end_field(text)?;
+        self.section = Section::Declarations;
+        self.pick = pick;
+        Ok(())
+    }
+
+    // What stands behind `done`.
+    #[tactic(auto, unfolding(crate::specs::Line::done_line))]
+    pub(crate) fn done(&mut self, text: Option<&[u8]>) -> Result<(), LineFault>
+        requires { Fits self.old }
+        ensures fits { OnOk result (Fits self.new) }
+        ensures leaves { Leaves result (view self.new) (done_line (view self.old) (words_left 32 (option_copied text.entry))) }
+    {
+        end_field(text)?;
+        self.section = Section::Done;
+        Ok(())
+    }
+}

@@ -1,0 +1,79 @@
+//! One line of a text.
+ghost use Rattle.std.specs.Prelude.{◌≡◌, OnOk};
+ghost use Rattle.flow_key.specs.Words.{words_at};
+ghost use Rattle.scenario_lines.specs.Draft.{view, Fits};
+ghost use Rattle.scenario_lines.specs.Fields.{Leaves};
+ghost use Rattle.scenario_lines.specs.Line.{known_line, words_line, line_of};
+ghost use Rattle.std.specs.Option.{option_copied};
+ghost use Rattle.flow_key.specs.Words.{words_left};
+
+use crate::draft::Draft;
+use crate::fault::LineFault;
+use crate::section::{Keyword, Section};
+use crate::why::Why;
+use flow_key::words;
+
+impl Draft {
+    // What stands behind a first word.
+    fn form(&mut self, word: Option<Keyword>, text: Option<&[u8]>) -> Result<(), LineFault>
+        requires { Fits self.old }
+        ensures fits { OnOk result (Fits self.new) }
+        ensures leaves { Leaves result (view self.new) (known_line word (view self.old) (words_left 32 (option_copied text.entry))) }
+    {
+        let Some(word) = word else {
+            return Err(LineFault::Bad(Why::UnknownWord));
+        };
+        if !self.section.admits(word) {
+            return Err(LineFault::Bad(Why::OutOfPlace));
+        }
+        match word {
+            Keyword::Guardian => Err(LineFault::Bad(Why::OutOfPlace)),
+            Keyword::Shape => self.shape(text),
+            Keyword::Pick => self.pick(text),
+            Keyword::Host => self.host(text),
+            Keyword::Switch => self.switch(text),
+            Keyword::Flow => self.flow(text),
+            Keyword::Link => self.link(text),
+            Keyword::Packet => self.packet(text),
+            Keyword::End => self.end(text),
+            Keyword::Release => self.release(text),
+            Keyword::Ask => self.ask(text),
+            Keyword::Done => self.done(text),
+        }
+    }
+
+    // A line that isn't skipped and isn't the first.
+    fn words(&mut self, line: &[u8]) -> Result<(), LineFault>
+        requires { Fits self.old }
+        ensures fits { OnOk result (Fits self.new) }
+        ensures leaves { Leaves result (view self.new) (words_line (view self.old) (words_at 32 line.now)) }
+    {
+        let (first, text) = words::cut(line, b' ');
+        if self.is_not_built(line) {
+            return Err(LineFault::Bad(Why::NotYet));
+        }
+        self.form(Keyword::of(first), text)
+    }
+
+    /// Takes the next line, given without its end. A line that is empty or begins with `#` is skipped.
+    ///
+    /// `Bad` with a why exactly where the line is refused (docs/FORMATS.md, Scenario text), `Memory` where no memory
+    /// was found. Behind an error the draft is to be dropped.
+    #[tactic(auto, unfolding(crate::specs::Line::line_of))]
+    pub fn line(&mut self, line: &[u8]) -> Result<(), LineFault>
+        requires { Fits self.old }
+        ensures fits { OnOk result (Fits self.new) }
+        ensures leaves { Leaves result (view self.new) (line_of (view self.old) line.now) }
+    {
+        match line {
+            [] | [b'#', ..] => Ok(()),
+            _ => {
+                if matches!(self.section, Section::First) {
+                    self.first(line)
+                } else {
+                    self.words(line)
+                }
+            }
+        }
+    }
+}

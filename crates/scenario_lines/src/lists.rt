@@ -1,0 +1,154 @@
+//! Fields with several parts: paths, letters and delays.
+ghost use Rattle.std.specs.Prelude.{◌≡◌, ◌≤◌, ◌<◌, ◌+◌, ◌∷◌, [], All, Ok, length, map, IfOk, OnOk};
+ghost use Rattle.std.specs.Fmt.{decimal};
+ghost use Rattle.std.specs.List.{list_all};
+ghost use Rattle.std.specs.Option.{option_copied};
+ghost use Rattle.flow_key.specs.Words.{words_left};
+ghost use Rattle.scenario_lines.specs.Spelling.{size};
+ghost use Rattle.scenario_lines.specs.Fields.{Gives, number, hop, path, is_letter, letter_of, letters_word, delays};
+
+use crate::fault::LineFault;
+use crate::fields::number_field;
+use crate::names::{fresh_name, place_of};
+use crate::why::Why;
+use flow_key::words;
+use lg_model::{Letter, Letters};
+use std::alloc::Global;
+
+#[tactic(auto, unfolding(crate::specs::Fields::number))]
+fn name_in(word: &[u8]) -> Result<u16, LineFault>
+    ensures { Gives (λ n. (n, [])) result (number 0 65535 (word.now ∷ [])) }
+{
+    match words::number(word, 65535) {
+        None => Err(LineFault::Bad(Why::BadNumber)),
+        Some(n) => Ok(n as u16),
+    }
+}
+
+#[tactic(auto, unfolding(crate::specs::Fields::hop))]
+fn next_hop(switches: &[u16], sofar: &[u16], word: &[u8]) -> Result<u16, LineFault>
+    requires few { length switches.now ≤ 65536 }
+    requires short { length sofar.now ≤ 16 }
+    ensures gives { Gives (λ x. x) result (hop switches.now sofar.now word.now) }
+    ensures fits { OnOk result (length sofar.now < 16) }
+    ensures bound { IfOk result (λ at. at < length switches.now) }
+{
+    if sofar.len() == 16 {
+        return Err(LineFault::Bad(Why::BadPath));
+    }
+    let name = name_in(word)?;
+    let at = place_of(switches, name)?;
+    fresh_name(sofar, at)?;
+    Ok(at)
+}
+
+// The rest of the line as a path: the positions of its switches.
+#[tactic(auto, unfolding(crate::specs::Fields::path))]
+pub(crate) fn path_field(
+    alloc: Global,
+    switches: &[u16],
+    text: Option<&[u8]>,
+) -> Result<Vec<u16>, LineFault>
+    requires { length switches.now ≤ 65536 }
+    ensures gives { Gives (λ v. v.items) result (path switches.now [] (words_left 32 (option_copied text.entry))) }
+    ensures some { IfOk result (λ v. 1 ≤ length v.items) }
+    ensures short { IfOk result (λ v. length v.items ≤ 16) }
+    ensures bound { IfOk result (λ v. All (λ at. at < length switches.now) v.items) }
+{
+    let mut hops: Vec<u16> = Vec::new(alloc);
+    let mut left = text;
+    while let Some(line) = left {
+        let (word, rest) = words::cut(line, b' ');
+        let at = next_hop(switches, &hops, word)?;
+        hops.push(at)?;
+        left = rest;
+    }
+    if hops.is_empty() {
+        return Err(LineFault::Bad(Why::WordCount));
+    }
+    Ok(hops)
+}
+
+fn letter_in(b: u8) -> bool
+    ensures { result ≡ is_letter b }
+{
+    b == b'd' || b == b'x' || b == b'a' || b == b'r' || b == b'h'
+}
+
+fn are_letters(word: &[u8]) -> bool
+    ensures { result ≡ list_all is_letter word.now }
+{
+    word.iter().all(|b| letter_in(*b))
+}
+
+fn letter(b: u8) -> Letter
+    ensures { result ≡ letter_of b }
+{
+    if b == b'd' {
+        Letter::Deliver
+    } else if b == b'x' {
+        Letter::Lose
+    } else if b == b'a' {
+        Letter::LoseReply
+    } else if b == b'r' {
+        Letter::Twice
+    } else {
+        Letter::Hold
+    }
+}
+
+fn letters_in(alloc: Global, word: &[u8]) -> Result<Letters, LineFault>
+    ensures { Gives (λ x. x) result (Ok (map letter_of word.now)) }
+{
+    let mut letters: Vec<Letter> = Vec::new(alloc);
+    for b in word {
+        letters.push(letter(*b))?;
+    }
+    Ok(Letters::new(letters))
+}
+
+// A word of 1 to 4,096 letters.
+#[tactic(auto, unfolding(crate::specs::Fields::letters_word))]
+pub(crate) fn letters_field(
+    alloc: Global,
+    text: Option<&[u8]>,
+) -> Result<(Letters, Option<&[u8]>), LineFault>
+    ensures { Gives (λ x. (x.0, words_left 32 (option_copied x.1))) result (letters_word (words_left 32 (option_copied text.entry))) }
+{
+    let Some(text) = text else {
+        return Err(LineFault::Bad(Why::WordCount));
+    };
+    let (word, rest) = words::cut(text, b' ');
+    if word.len() < 1 {
+        return Err(LineFault::Bad(Why::BadLetters));
+    }
+    if word.len() > 4096 {
+        return Err(LineFault::Bad(Why::BadLetters));
+    }
+    if !are_letters(word) {
+        return Err(LineFault::Bad(Why::BadLetters));
+    }
+    let letters = letters_in(alloc, word)?;
+    Ok((letters, rest))
+}
+
+// One delay for each hop, behind those so far. A path has at most 16 hops, so the calls are at most 17 deep.
+#[tactic(auto, using(crate::proofs::SizeLemmas::size_push), unfolding(crate::specs::Fields::delays))]
+pub(crate) fn delays_field<'a>(
+    path: &[u16],
+    mut sofar: Vec<u32>,
+    text: Option<&'a [u8]>,
+) -> Result<(Vec<u32>, Option<&'a [u8]>), LineFault>
+    ensures taken { IfOk result (λ x. size (map decimal x.0.items) + size (words_left 32 (option_copied x.1)) ≡ size (map decimal sofar.items) + size (words_left 32 (option_copied text.entry))) }
+    ensures count { IfOk result (λ x. length x.0.items ≡ length sofar.items + length path.now) }
+    ensures gives { Gives (λ x. (x.0.items, words_left 32 (option_copied x.1))) result (delays path.now sofar.items (words_left 32 (option_copied text.entry))) }
+{
+    match path {
+        [] => Ok((sofar, text)),
+        [_, hops @ ..] => {
+            let (delay, text) = number_field(text, 0, 4294967295)?;
+            sofar.push(delay as u32)?;
+            delays_field(hops, sofar, text)
+        }
+    }
+}

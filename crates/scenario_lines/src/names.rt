@@ -1,0 +1,90 @@
+//! The names of hosts and switches, which are few, looked up by their positions.
+ghost use Rattle.std.specs.Prelude.{◌≡◌, ◌≤◌, ◌<◌, ◌==◌, length, IfOk, IfSome};
+ghost use Rattle.std.specs.List.{position, list_any};
+ghost use Rattle.scenario_lines.specs.Fields.{Gives, fresh, known, place, fresh_host, host_place};
+
+use crate::fault::LineFault;
+use crate::why::Why;
+use lg_model::HostLine;
+
+// The name is none of these.
+#[tactic(auto, unfolding(crate::specs::Fields::fresh))]
+pub(crate) fn fresh_name(names: &[u16], name: u16) -> Result<(), LineFault>
+    ensures { Gives (λ x. x) result (fresh names.now name) }
+{
+    if names.contains(&name) {
+        Err(LineFault::Bad(Why::Repeated))
+    } else {
+        Ok(())
+    }
+}
+
+// The name is one of these.
+#[tactic(auto, unfolding(crate::specs::Fields::known))]
+pub(crate) fn known_name(names: &[u16], name: u16) -> Result<(), LineFault>
+    ensures { Gives (λ x. x) result (known names.now name) }
+{
+    if names.contains(&name) {
+        Ok(())
+    } else {
+        Err(LineFault::Bad(Why::UnknownName))
+    }
+}
+
+fn find(names: &[u16], name: u16) -> Option<usize>
+    ensures value { result ≡ position (λ m. m == name) names.now }
+    ensures bound { IfSome result (λ i. i < length names.now) }
+{
+    names.iter().position(|m| *m == name)
+}
+
+// The position of a name.
+#[tactic(auto, unfolding(crate::specs::Fields::place))]
+pub(crate) fn place_of(names: &[u16], name: u16) -> Result<u16, LineFault>
+    requires { length names.now ≤ 65536 }
+    ensures gives { Gives (λ x. x) result (place names.now name) }
+    ensures bound { IfOk result (λ i. i < length names.now) }
+{
+    match find(names, name) {
+        None => Err(LineFault::Bad(Why::UnknownName)),
+        Some(i) => Ok(i as u16),
+    }
+}
+
+fn has_host(hosts: &[HostLine], name: u16) -> bool
+    ensures { result ≡ list_any (λ h. h.name == name) hosts.now }
+{
+    hosts.iter().any(|h| h.name == name)
+}
+
+// No host has the name.
+#[tactic(auto, unfolding(crate::specs::Fields::fresh_host))]
+pub(crate) fn new_host(hosts: &[HostLine], name: u16) -> Result<(), LineFault>
+    ensures { Gives (λ x. x) result (fresh_host hosts.now name) }
+{
+    if has_host(hosts, name) {
+        Err(LineFault::Bad(Why::Repeated))
+    } else {
+        Ok(())
+    }
+}
+
+fn find_host(hosts: &[HostLine], name: u16) -> Option<usize>
+    ensures value { result ≡ position (λ h. h.name == name) hosts.now }
+    ensures bound { IfSome result (λ i. i < length hosts.now) }
+{
+    hosts.iter().position(|h| h.name == name)
+}
+
+// The position of a host's name.
+#[tactic(auto, unfolding(crate::specs::Fields::host_place))]
+pub(crate) fn host_at(hosts: &[HostLine], name: u16) -> Result<u16, LineFault>
+    requires { length hosts.now ≤ 64 }
+    ensures gives { Gives (λ x. x) result (host_place hosts.now name) }
+    ensures bound { IfOk result (λ i. i < length hosts.now) }
+{
+    match find_host(hosts, name) {
+        None => Err(LineFault::Bad(Why::UnknownName)),
+        Some(i) => Ok(i as u16),
+    }
+}

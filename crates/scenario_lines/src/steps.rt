@@ -1,0 +1,187 @@
+//! Steps and asks.
+ghost use Rattle.std.specs.Prelude.{◌≡◌, ◌<◌, ◌≤◌, IfOk, OnOk, length, slice_index};
+ghost use Rattle.std.specs.Option.{option_copied};
+ghost use Rattle.flow_key.specs.Words.{words_left};
+ghost use Rattle.scenario_lines.specs.Counts.{names_of, path_at, ends_of};
+ghost use Rattle.scenario_lines.specs.Draft.{view, Fits};
+ghost use Rattle.scenario_lines.specs.Fields.{Leaves, Gives, place, all_room, room_for_all};
+ghost use Rattle.scenario_lines.specs.Line.{packet_line, end_line, end_one, end_all, release_line, ask_line};
+
+use crate::draft::Draft;
+use crate::fault::LineFault;
+use crate::fields::{end_field, number_field, room_for, room_up_to};
+use crate::index::find_flow;
+use crate::lists::delays_field;
+use crate::names::{known_name, place_of};
+use crate::section::Section;
+use crate::tail::{burst_field, fate_field};
+use crate::why::Why;
+use flow_key::words;
+use flow_key::words::is;
+use lg_model::{Ask, Delays, Step};
+
+impl Draft {
+    #[tactic(auto, unfolding(crate::specs::Fields::place))]
+    fn flow_at(&self, name: u16) -> Result<u16, LineFault>
+        ensures gives { Gives (λ x. x) result (place (names_of self.now.flows.items) name) }
+        ensures bound { IfOk result (λ i. i < length self.now.flows.items) }
+        ensures named { IfOk result (λ i. slice_index (names_of self.now.flows.items) i ≡ name) }
+    {
+        match find_flow(&self.flows, &self.flow_places, name) {
+            None => Err(LineFault::Bad(Why::UnknownName)),
+            Some(at) => Ok(at),
+        }
+    }
+
+    // The path of the flow at a position.
+    fn path_of(&self, at: u16) -> &[u16]
+        requires fits { Fits self.now }
+        requires here { at < length self.now.flows.items }
+        ensures value { result.now ≡ path_at self.now.flows.items at }
+        ensures short { length result.now ≤ 16 }
+    {
+        self.flows[at as usize].path.items()
+    }
+
+    // What stands behind `packet`.
+    #[tactic(auto, unfolding(crate::specs::Line::packet_line))]
+    pub(crate) fn packet(&mut self, text: Option<&[u8]>) -> Result<(), LineFault>
+        requires { Fits self.old }
+        ensures fits { OnOk result (Fits self.new) }
+        ensures leaves { Leaves result (view self.new) (packet_line (view self.old) (words_left 32 (option_copied text.entry))) }
+    {
+        let (name, text) = number_field(text, 0, 65535)?;
+        let flow_at = self.flow_at(name as u16)?;
+        let (size, text) = number_field(text, 0, 65535)?;
+        let size = size as u16;
+        let path = self.path_of(flow_at);
+        let hops = path.len();
+        let (delays, text) = delays_field(path, Vec::new(*self.steps.allocator()), text)?;
+        let (burst, text) = burst_field(text)?;
+        let fate = fate_field(hops, text)?;
+        let packets = self.packets + burst;
+        room_up_to(1000000, packets)?;
+        let delays = Delays::new(delays);
+        self.steps.push(Step::Packet {
+            flow_at,
+            size,
+            delays,
+            burst,
+            fate,
+        })?;
+        self.packets = packets;
+        self.section = Section::Steps;
+        Ok(())
+    }
+
+    // How many epochs of the switch at a position have ended.
+    fn ends_at(&self, at: usize) -> u64
+        requires { at < 64 }
+        ensures { result ≡ ends_of at self.now.steps.items }
+    {
+        self.ends[at] + self.ends_of_all
+    }
+
+    // Whether each of the first switches may end an epoch more.
+    fn has_room(&self, switches: usize) -> bool
+        requires { switches ≤ 64 }
+        ensures { result ≡ all_room self.now.steps.items switches }
+    {
+        if switches == 0 {
+            true
+        } else if self.ends_at(switches - 1) < 65535 {
+            self.has_room(switches - 1)
+        } else {
+            false
+        }
+    }
+
+    #[tactic(auto, unfolding(crate::specs::Line::end_one))]
+    fn end_of_one(&mut self, text: Option<&[u8]>) -> Result<(), LineFault>
+        requires { Fits self.old }
+        ensures fits { OnOk result (Fits self.new) }
+        ensures leaves { Leaves result (view self.new) (end_one (view self.old) (words_left 32 (option_copied text.entry))) }
+    {
+        let (switch, text) = number_field(text, 0, 65535)?;
+        let switch = switch as u16;
+        let switch_at = place_of(&self.switches, switch)?;
+        end_field(text)?;
+        room_for(65535, self.ends_at(switch_at as usize) as usize)?;
+        self.steps.push(Step::End { switch_at })?;
+        self.ends[switch_at as usize] += 1;
+        self.section = Section::Steps;
+        Ok(())
+    }
+
+    #[tactic(auto, unfolding(crate::specs::Line::end_all, crate::specs::Fields::room_for_all))]
+    fn end_of_all(&mut self, text: Option<&[u8]>) -> Result<(), LineFault>
+        requires { Fits self.old }
+        ensures fits { OnOk result (Fits self.new) }
+        ensures leaves { Leaves result (view self.new) (end_all (view self.old) (words_left 32 (option_copied text.entry))) }
+    {
+        end_field(text)?;
+        if !self.has_room(self.switches.len()) {
+            return Err(LineFault::Bad(Why::TooMany));
+        }
+        self.steps.push(Step::EndAll)?;
+        self.ends_of_all += 1;
+        self.section = Section::Steps;
+        Ok(())
+    }
+
+    // What stands behind `end`.
+    #[tactic(auto, unfolding(crate::specs::Line::end_line))]
+    pub(crate) fn end(&mut self, text: Option<&[u8]>) -> Result<(), LineFault>
+        requires { Fits self.old }
+        ensures fits { OnOk result (Fits self.new) }
+        ensures leaves { Leaves result (view self.new) (end_line (view self.old) (words_left 32 (option_copied text.entry))) }
+    {
+        let Some(line) = text else {
+            return Err(LineFault::Bad(Why::WordCount));
+        };
+        let (word, rest) = words::cut(line, b' ');
+        if is(word, b"all") {
+            self.end_of_all(rest)
+        } else {
+            self.end_of_one(Some(line))
+        }
+    }
+
+    // What stands behind `release`.
+    #[tactic(auto, unfolding(crate::specs::Line::release_line))]
+    pub(crate) fn release(&mut self, text: Option<&[u8]>) -> Result<(), LineFault>
+        requires { Fits self.old }
+        ensures fits { OnOk result (Fits self.new) }
+        ensures leaves { Leaves result (view self.new) (release_line (view self.old) (words_left 32 (option_copied text.entry))) }
+    {
+        end_field(text)?;
+        self.steps.push(Step::Release)?;
+        self.section = Section::Steps;
+        Ok(())
+    }
+
+    // What stands behind `ask`.
+    #[tactic(auto, unfolding(crate::specs::Line::ask_line))]
+    pub(crate) fn ask(&mut self, text: Option<&[u8]>) -> Result<(), LineFault>
+        requires { Fits self.old }
+        ensures fits { OnOk result (Fits self.new) }
+        ensures leaves { Leaves result (view self.new) (ask_line (view self.old) (words_left 32 (option_copied text.entry))) }
+    {
+        let (flow, text) = number_field(text, 0, 65535)?;
+        let flow_at = self.flow_at(flow as u16)?;
+        let (switch, text) = number_field(text, 0, 65535)?;
+        let switch = switch as u16;
+        known_name(&self.switches, switch)?;
+        let (epoch, text) = number_field(text, 0, 4294967295)?;
+        let epoch = epoch as u32;
+        end_field(text)?;
+        room_for(10000, self.asks.len())?;
+        self.section = Section::Steps;
+        self.asks.push(Ask {
+            flow_at,
+            switch,
+            epoch,
+        })?;
+        Ok(())
+    }
+}

@@ -1,0 +1,4 @@
+pub mod Sources
+pub mod Text
+pub mod Reading
+pub mod Worked

@@ -1,0 +1,156 @@
+//! A text that comes in pieces.
+ghost use Rattle.std.specs.Prelude.{◌≡◌, ◌≢◌, ◌+◌, ◌<◌, ◌≤◌, ◌^◌, [], ◌∷◌, length, IfErr, OnOk, Err, true, false};
+ghost use Rattle.std.specs.Str.Lines.{strip_carriage_return};
+ghost use Rattle.scenario_lines.specs.Draft.{view, start, scenario_of, Fits};
+ghost use Rattle.scenario_text.specs.declared.fault.ScenarioFault.TheVariants.{ReadFault};
+ghost use Rattle.scenario_text.specs.Text.{Answers};
+ghost use Rattle.scenario_text.specs.Reading.{Fed, Spent, IsReader, from_here};
+
+use crate::fault::ScenarioFault;
+use crate::scenario::Scenario;
+use scenario_lines::{Draft, LineFault, Why};
+use std::alloc::Global;
+
+// What the lines so far have said, the bytes of the line that has not ended yet, and its number.
+#[derive(Debug, Drop)]
+pub(crate) struct Reader {
+    pub(crate) draft: Draft,
+    pub(crate) pending: Vec<u8>,
+    pub(crate) line: u32,
+}
+
+fn without_return(line: &[u8]) -> &[u8]
+    ensures { result.now ≡ strip_carriage_return line.now }
+{
+    if line.is_empty() || line[line.len() - 1] != 13 {
+        line
+    } else {
+        &line[..line.len() - 1]
+    }
+}
+
+impl Reader {
+    pub(crate) fn new(alloc: Global) -> Reader
+        ensures pending { result.pending.items ≡ [] }
+        ensures line { result.line ≡ 1 }
+        ensures start { view result.draft ≡ start }
+        ensures reader { IsReader result }
+    {
+        Reader {
+            draft: Draft::new(alloc),
+            pending: Vec::new(alloc),
+            line: 1,
+        }
+    }
+
+    // The end of the pending line. `true` where it was the last one.
+    fn end_line(&mut self) -> Result<bool, ScenarioFault>
+        requires reader { IsReader self.old }
+        requires short { self.old.line + 1 < 2 ^ 32 }
+        ensures fed { Fed self.old (10 ∷ []) self.new result }
+        ensures spent { Spent self.old (10 ∷ []) self.new result }
+        ensures reader { OnOk result (IsReader self.new) }
+        ensures short { self.new.line ≤ self.old.line + 1 }
+    {
+        match self.draft.line(without_return(&self.pending)) {
+            Err(LineFault::Memory) => return Err(ScenarioFault::Memory),
+            Err(LineFault::Bad(why)) => {
+                return Err(ScenarioFault::Bad {
+                    line: self.line,
+                    why,
+                });
+            }
+            Ok(()) => {}
+        }
+        if self.draft.is_done() {
+            return Ok(true);
+        }
+        self.pending.clear();
+        self.line += 1;
+        Ok(false)
+    }
+
+    fn byte(&mut self, b: u8) -> Result<bool, ScenarioFault>
+        requires reader { IsReader self.old }
+        requires short { self.old.line + 1 < 2 ^ 32 }
+        ensures fed { Fed self.old (b ∷ []) self.new result }
+        ensures spent { Spent self.old (b ∷ []) self.new result }
+        ensures reader { OnOk result (IsReader self.new) }
+        ensures short { self.new.line ≤ self.old.line + 1 }
+    {
+        if b == 10 {
+            self.end_line()
+        } else {
+            match self.pending.push(b) {
+                Ok(()) => Ok(false),
+                Err(_) => Err(ScenarioFault::Memory),
+            }
+        }
+    }
+
+    // The next bytes. `true` where the line `done` ended in them; bytes behind it are not looked at.
+    pub(crate) fn feed(&mut self, piece: &[u8]) -> Result<bool, ScenarioFault>
+        requires reader { IsReader self.old }
+        requires short { self.old.line + length piece.now < 2 ^ 32 }
+        ensures fed { Fed self.old piece.now self.new result }
+        ensures spent { Spent self.old piece.now self.new result }
+        ensures reader { OnOk result (IsReader self.new) }
+        ensures short { self.new.line ≤ self.old.line + length piece.now }
+    {
+        for b in piece {
+            match self.byte(*b) {
+                Ok(false) => {}
+                Ok(true) => return Ok(true),
+                Err(e) => return Err(e),
+            }
+        }
+        Ok(false)
+    }
+
+    // The end of the input: an unfinished last line may be `done`.
+    pub(crate) fn end(mut self) -> Result<Scenario, ScenarioFault>
+        requires { IsReader self }
+        ensures says { Answers result (from_here false self []) }
+        ensures no_fault { IfErr result (λ e. e ≢ ReadFault) }
+    {
+        match self.draft.line(&self.pending) {
+            Err(LineFault::Memory) => return Err(ScenarioFault::Memory),
+            Err(LineFault::Bad(why)) => {
+                return Err(ScenarioFault::Bad {
+                    line: self.line,
+                    why,
+                });
+            }
+            Ok(()) => {}
+        }
+        if self.draft.is_done() {
+            Ok(self.scenario())
+        } else {
+            Err(ScenarioFault::Bad {
+                line: self.line,
+                why: Why::NoDone,
+            })
+        }
+    }
+
+    // No line `done` in the bytes that a text may have.
+    pub(crate) fn stop(self) -> ScenarioFault
+        requires { IsReader self }
+        ensures says { Answers (Err result) (from_here true self []) }
+        ensures no_fault { result ≢ ReadFault }
+    {
+        ScenarioFault::Bad {
+            line: self.line,
+            why: Why::TooLong,
+        }
+    }
+
+    // The scenario of the lines so far.
+    pub(crate) fn scenario(self) -> Scenario
+        requires { Fits self.draft }
+        ensures { result ≡ scenario_of (view self.draft) }
+    {
+        let Reader { draft, .. } = self;
+        Scenario::of(draft)
+    }
+}

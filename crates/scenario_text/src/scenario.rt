@@ -1,0 +1,122 @@
+//! Scenarios.
+ghost use Rattle.std.specs.Prelude.{◌≡◌};
+ghost use Rattle.lg_model.specs.Scenario as model;
+ghost use Rattle.scenario_lines.specs.Draft.{view, scenario_of, Fits};
+
+use lg_model::{Ask, Flow, HostLine, Pick, Step};
+use row_hash::Shape;
+use scenario_lines::Draft;
+use std::marker::Model;
+
+/// A scenario (docs/FORMATS.md, Scenario text): a shape, a pick, and lists of hosts, switches, flows, steps and asks.
+/// Steps and asks name flows by their positions, flows name hosts and switches so, and an ask names its switch by its
+/// name. All positions are in range, and no limit is passed.
+#[derive(Debug, Drop)]
+pub struct Scenario {
+    shape: Shape,
+    pick: Pick,
+    hosts: Vec<HostLine>,
+    switches: Vec<u16>,
+    flows: Vec<Flow>,
+    steps: Vec<Step>,
+    asks: Vec<Ask>,
+}
+
+impl Model for Scenario {
+    ghost use Rattle.lg_model.specs.Scenario as model;
+
+    ghost Value = { model.Scenario };
+
+    ghost view = { λ s. record { shape = s.shape; pick = s.pick; hosts = s.hosts.items; switches = s.switches.items; flows = s.flows.items; steps = s.steps.items; asks = s.asks.items } };
+
+    ghost invariant = { λ s. model.IsScenario (record { shape = s.shape; pick = s.pick; hosts = s.hosts.items; switches = s.switches.items; flows = s.flows.items; steps = s.steps.items; asks = s.asks.items }) };
+}
+
+impl Scenario {
+    // The scenario of what the lines of a text have said.
+    pub(crate) fn of(draft: Draft) -> Scenario
+        requires { Fits draft }
+        ensures { result ≡ scenario_of (view draft) }
+    {
+        let Draft {
+            rows,
+            width,
+            hash,
+            pick,
+            hosts,
+            switches,
+            flows,
+            steps,
+            asks,
+            ..
+        } = draft;
+        match Shape::new(rows, width, hash) {
+            None => unreachable!(),
+            Some(shape) => Scenario {
+                shape,
+                pick,
+                hosts,
+                switches,
+                flows,
+                steps,
+                asks,
+            },
+        }
+    }
+
+    /// The shape of the sketches of every switch.
+    pub fn shape(&self) -> Shape
+        ensures value { result ≡ self.now.shape }
+        ensures fits { model.IsScenario self.now }
+    {
+        self.shape
+    }
+
+    /// How every switch chooses the columns that packets carry.
+    pub fn pick(&self) -> &Pick
+        ensures value { result.now ≡ self.now.pick }
+        ensures fits { model.IsScenario self.now }
+    {
+        &self.pick
+    }
+
+    /// The hosts, at most 64, each with the letters of its link.
+    pub fn hosts(&self) -> &[HostLine]
+        ensures value { result.now ≡ self.now.hosts }
+        ensures fits { model.IsScenario self.now }
+    {
+        &self.hosts
+    }
+
+    /// The names of the switches, at most 64.
+    pub fn switches(&self) -> &[u16]
+        ensures value { result.now ≡ self.now.switches }
+        ensures fits { model.IsScenario self.now }
+    {
+        &self.switches
+    }
+
+    /// The flows, at most 4,096.
+    pub fn flows(&self) -> &[Flow]
+        ensures value { result.now ≡ self.now.flows }
+        ensures fits { model.IsScenario self.now }
+    {
+        &self.flows
+    }
+
+    /// What happens, in order: at most 1,000,000 packets with bursts, and at most 65,535 ends of each switch.
+    pub fn steps(&self) -> &[Step]
+        ensures value { result.now ≡ self.now.steps }
+        ensures fits { model.IsScenario self.now }
+    {
+        &self.steps
+    }
+
+    /// The questions, at most 10,000.
+    pub fn asks(&self) -> &[Ask]
+        ensures value { result.now ≡ self.now.asks }
+        ensures fits { model.IsScenario self.now }
+    {
+        &self.asks
+    }
+}
