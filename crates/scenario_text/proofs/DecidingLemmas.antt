@@ -1,17 +1,16 @@
 -- The deciding prefix says what the whole input says.
-use Rattle.std.proofs.Common.{◌≡◌, ℕ, suc, zero, ◌+◌, ◌-◌, ◌<◌, ◌≤◌, Bool, true, false, cond, eqb, leb, List, [], ◌∷◌, ◌++◌, length, length-append, length-take, take, Result, Ok, Err, refl, sym, ap, subst, ◌∙◌, ◌⊎◌, inl, inr, arith}
+use Rattle.std.proofs.Common.{◌≡◌, ℕ, suc, zero, ◌+◌, ◌<◌, ◌≤◌, Bool, true, false, cond, eqb, leb, List, [], ◌∷◌, ◌++◌, length, length-append, length-take, take, Result, Ok, Err, refl, sym, ap, ◌∙◌, ◌⊎◌, inl, inr, arith}
 use Rattle.std.specs.Str.Lines.{strip_carriage_return}
 use Rattle.std.proofs.lemmas.Bool.{cases_lt, le-leb}
-use Rattle.std.proofs.lemmas.List.{append-nil, take-take, take_all}
+use Rattle.std.proofs.lemmas.List.{take-take, take_all}
 use Rattle.std.proofs.lemmas.List.Elements.{All-nil, All-cons}
 use Rattle.std.proofs.lemmas.List.Splits.{slice_split_none}
 use Rattle.flow_key.specs.Words.{words_at}
-use Rattle.lg_model.specs.Scenario.{Scenario}
 use Rattle.scenario_lines.specs.declared.why.Why.{Why}
 use Rattle.scenario_lines.specs.Sections.{is_done}
 use Rattle.scenario_lines.specs.Draft.{State, start, scenario_of}
 use Rattle.scenario_lines.specs.Line.{line_of}
-use Rattle.scenario_text.specs.Text.{Fault, most_bytes, after_line, after_len, lines_say, reading, decide, deciding_len, deciding}
+use Rattle.scenario_text.specs.Text.{most_bytes, after_line, after_len, lines_say, reading, decide, deciding_len, deciding}
 use Rattle.scenario_text.specs.Reading.{IsUnbroken}
 use Rattle.scenario_text.proofs.ReaderLemmas.{ends}
 use Rattle.scenario_text.proofs.SpentLemmas.{decide_ends}

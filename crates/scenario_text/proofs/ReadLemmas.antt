@@ -1,5 +1,5 @@
 -- A reader over a source: what is still said after each piece.
-use Rattle.std.proofs.Common.{◌≡◌, ℕ, suc, ◌+◌, ◌-◌, ◌<◌, ◌≤◌, Bool, true, false, leb, List, [], ◌∷◌, ◌++◌, length, take, drop, Option, Some, None, Result, Ok, Err, refl, sym, ap, subst, ◌∙◌, arith}
+use Rattle.std.proofs.Common.{◌≡◌, ℕ, ◌+◌, ◌-◌, ◌<◌, ◌≤◌, Bool, true, false, leb, List, [], ◌++◌, length, take, drop, Option, Some, None, Result, Ok, Err, refl, sym, ap, subst, ◌∙◌, arith}
 use Rattle.std.specs.Prelude.{IfSome}
 use Rattle.std.proofs.Math.Seq.{take-add}
 use Rattle.std.proofs.lemmas.List.{length-drop}
@@ -8,10 +8,9 @@ use Rattle.scenario_text.specs.declared.fault.ScenarioFault.{ScenarioFault}
 use Rattle.scenario_text.specs.declared.fault.ScenarioFault.TheVariants as faults
 use Rattle.lg_model.specs.Scenario.{Scenario}
 use Rattle.scenario_text.specs.declared.reader.Reader.{Reader}
-use Rattle.scenario_lines.specs.Draft.{State, view, start, scenario_of}
+use Rattle.scenario_lines.specs.Draft.{view, start, scenario_of}
 use Rattle.scenario_text.specs.Sources.{Comes}
-use Rattle.flow_key.specs.Words.{words_at}
-use Rattle.scenario_text.specs.Text.{Fault, most_bytes, lines_say, reading, Answers}
+use Rattle.scenario_text.specs.Text.{most_bytes, reading, Answers}
 use Rattle.scenario_text.specs.Reading.{from_here, Fed, StillSays}
 
 pub says_first : (left : Option (List ℕ)) (r : Reader) → r.pending.items ≡ [] → r.line ≡ 1 → view r.draft ≡ start → IfSome left (λ input. StillSays input 0 left r)

@@ -1,20 +1,18 @@
 -- A line that ends, and bytes of a line that doesn't yet.
-use Rattle.std.proofs.Common.{◌≡◌, ℕ, suc, ◌+◌, ◌<◌, ◌≤◌, Bool, true, false, cond, eqb, List, [], ◌∷◌, ◌++◌, length, get_or, take, drop, drop-cons, add-one, Result, Ok, Err, refl, sym, ap, subst, ◌∙◌, arith, append_assoc, All}
+use Rattle.std.proofs.Common.{◌≡◌, ℕ, ◌+◌, ◌<◌, Bool, cond, eqb, List, [], ◌∷◌, ◌++◌, length, drop, Result, Ok, Err, refl, sym, ap, ◌∙◌, arith}
 use Rattle.std.specs.List.{slice_split}
 use Rattle.std.specs.Str.Lines.{strip_carriage_return}
 use Rattle.std.proofs.lemmas.List.{append-nil}
 use Rattle.std.proofs.lemmas.List.Splits.{slice_split_at, slice_split_none, length-slice_split}
 use Rattle.flow_key.specs.Words.{words_at}
 use Rattle.scenario_lines.specs.declared.why.Why.{Why}
-use Rattle.scenario_lines.specs.declared.why.Why.TheVariants.{NoDone, TooLong}
-use Rattle.scenario_text.specs.declared.fault.ScenarioFault.{ScenarioFault}
-use Rattle.scenario_text.specs.declared.fault.ScenarioFault.TheVariants as faults
+use Rattle.scenario_lines.specs.declared.why.Why.TheVariants.{TooLong}
 use Rattle.scenario_text.specs.declared.reader.Reader.{Reader}
 use Rattle.scenario_lines.specs.Draft.{State, scenario_of}
 use Rattle.scenario_lines.specs.Line.{line_of}
 use Rattle.scenario_lines.specs.Sections.{is_done}
-use Rattle.scenario_text.specs.Text.{Fault, at_end, after_line, lines_say}
-use Rattle.scenario_text.specs.Reading.{IsUnbroken, from_here, Fed}
+use Rattle.scenario_text.specs.Text.{at_end, after_line, lines_say}
+use Rattle.scenario_text.specs.Reading.{IsUnbroken, from_here}
 
 -- the parts are never none
 second : (long : Bool) (n : ℕ) (s : State) (line : List ℕ) (parts : List (List ℕ)) → 0 < length parts

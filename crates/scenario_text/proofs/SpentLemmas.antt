@@ -1,18 +1,15 @@
 -- How many bytes decide, line by line.
-use Rattle.std.proofs.Common.{◌≡◌, ℕ, suc, ◌+◌, ◌-◌, ◌<◌, ◌≤◌, Bool, true, false, cond, eqb, List, [], ◌∷◌, ◌++◌, length, get_or, take, drop, drop-cons, add-one, Result, Ok, Err, refl, sym, ap, subst, ◌∙◌, arith, append_assoc, All}
-use Rattle.std.specs.List.{slice_split}
+use Rattle.std.proofs.Common.{◌≡◌, ℕ, ◌+◌, ◌<◌, ◌≤◌, cond, eqb, List, [], ◌∷◌, ◌++◌, length, drop, Result, Ok, Err, refl, sym, ap, ◌∙◌, arith}
 use Rattle.std.specs.Str.Lines.{strip_carriage_return}
 use Rattle.std.proofs.lemmas.List.Splits.{slice_split_at, length-slice_split}
 use Rattle.flow_key.specs.Words.{words_at}
 use Rattle.scenario_lines.specs.declared.why.Why.{Why}
-use Rattle.scenario_text.specs.declared.fault.ScenarioFault.{ScenarioFault}
-use Rattle.scenario_text.specs.declared.fault.ScenarioFault.TheVariants as faults
 use Rattle.scenario_text.specs.declared.reader.Reader.{Reader}
-use Rattle.scenario_lines.specs.Draft.{State, view}
+use Rattle.scenario_lines.specs.Draft.{State}
 use Rattle.scenario_lines.specs.Line.{line_of}
 use Rattle.scenario_lines.specs.Sections.{is_done}
 use Rattle.scenario_text.specs.Text.{after_len, decide}
-use Rattle.scenario_text.specs.Reading.{needs, Spent, IsUnbroken}
+use Rattle.scenario_text.specs.Reading.{needs, IsUnbroken}
 
 second : (s : State) (line : List ℕ) (parts : List (List ℕ)) → 0 < length parts
     → decide s (line ∷ parts) ≡ (length line + 1) + after_len (line_of s (strip_carriage_return line)) (λ t. decide t parts)

@@ -1,5 +1,5 @@
 -- The reading of worked texts, by computation.
-use Rattle.std.specs.Prelude.{◌≡◌, ℕ, List, [], ◌∷◌, ◌++◌, Result, Ok, Err, codes}
+use Rattle.std.specs.Prelude.{◌≡◌, ℕ, List, [], ◌∷◌, ◌++◌, Ok, Err, codes}
 use Rattle.lg_model.specs.declared.scenario.Hash.TheVariants.{Ports}
 use Rattle.lg_model.specs.declared.scenario.Pick.TheVariants.{Turns}
 use Rattle.lg_model.specs.declared.scenario.Fate.TheVariants.{Straight}

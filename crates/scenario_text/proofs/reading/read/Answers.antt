@@ -1,9 +1,7 @@
-use Rattle.std.proofs.Common.{◌≡◌, ◌+◌, ◌<◌, ◌≤◌, take, length, arith, lit≤, subst, sym, eqb, false, Err}
-use Rattle.std.proofs.lemmas.List.Elements.{All-nil}
+use Rattle.std.proofs.Common.{◌+◌, ◌≤◌, arith, lit≤, Err}
 use Rattle.std.proofs.lemmas.List.{length-take}
 use Rattle.scenario_text.specs.Text.{most_bytes}
-use Rattle.scenario_text.specs.Reading.{IsUnbroken}
-use Rattle.scenario_text.proofs.ReadLemmas.{says_first, says_more, says_done, says_bad, says_end, says_stop}
+use Rattle.scenario_text.proofs.ReadLemmas.{says_first, says_more, says_done, says_bad, says_end}
 use Rattle.scenario_text.proofs.TookLemmas.{needs_first, needs_more, took_done, took_bad, took_end, took_stop}
 use Rattle.scenario_text.proofs.reading.read.Goals as goal
 

@@ -1,4 +1,4 @@
-use Rattle.std.proofs.Common.{◌≡◌, ◌≤◌, ◌<◌, ◌+◌, ◌-◌}
+use Rattle.std.proofs.Common.{◌≤◌, ◌+◌, ◌-◌}
 use Rattle.std.specs.Prelude.{IfSome}
 use Rattle.scenario_text.specs.Reading.{IsReader, StillSays, StillNeeds}
 use Rattle.scenario_text.proofs.reading.read.Given as goal

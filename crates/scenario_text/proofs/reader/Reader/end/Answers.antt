@@ -1,4 +1,4 @@
-use Rattle.std.proofs.Common.{◌≡◌, [], ap, sym, ◌∙◌, false, true, Ok}
+use Rattle.std.proofs.Common.{ap, sym, ◌∙◌, false, Ok}
 use Rattle.lg_model.specs.Scenario.{Scenario}
 use Rattle.scenario_lines.specs.Draft.{view}
 use Rattle.scenario_lines.specs.Line.{line_of}

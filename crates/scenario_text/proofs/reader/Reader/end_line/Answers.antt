@@ -1,8 +1,6 @@
-use Rattle.std.proofs.Common.{◌≡◌, ◌∷◌, [], ◌++◌, ◌+◌, List, ℕ, Bool, ap, sym, ◌∙◌, cond, false, true, refl, arith, length, ◌≤◌}
+use Rattle.std.proofs.Common.{ap, ◌∙◌, arith}
 use Rattle.std.specs.Str.Lines.{strip_carriage_return}
-use Rattle.flow_key.specs.Words.{words_at}
 use Rattle.scenario_lines.specs.Draft.{view}
-use Rattle.scenario_text.specs.Text.{lines_say}
 use Rattle.scenario_text.proofs.ReaderLemmas.{ends_bad, ends_well}
 use Rattle.scenario_text.proofs.SpentLemmas.{decide_bad, decide_well}
 use Rattle.scenario_text.proofs.reader.Reader.end_line.Goals as goal

@@ -1,4 +1,4 @@
-use Rattle.std.proofs.Common.{◌≡◌, ◌≤◌, ◌+◌, drop}
+use Rattle.std.proofs.Common.{◌≤◌, ◌+◌}
 use Rattle.scenario_text.specs.Reading.{IsReader}
 use Rattle.scenario_text.proofs.ReaderLemmas.{Same}
 use Rattle.scenario_text.proofs.SpentLemmas.{SameNeeds}
