@@ -4,3 +4,4 @@ pub mod Walking
 pub mod Onward
 pub mod Steps
 pub mod Ends
+pub mod Owning

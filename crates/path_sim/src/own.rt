@@ -1,5 +1,6 @@
 //! The network with the scenario's own pickers.
 ghost use Rattle.std.specs.Prelude.{◌≡◌, All, IfOk};
+ghost use Rattle.lg_model.specs.Scenario.{IsScenario};
 ghost use Rattle.lg_model.specs.Carrying.{picked, IsAllowed};
 ghost use Rattle.path_sim.specs.Parts.{carried_are, IsNamed};
 ghost use Rattle.path_sim.specs.Arrived.{HaveArrived};
@@ -13,7 +14,8 @@ use std::alloc::Global;
 
 // A fresh picker for each switch, in the order of declaration.
 fn own_pickers(alloc: Global, scenario: &Scenario) -> Result<Vec<AnyPicker>, Memory>
-    ensures { IfOk result (λ ps. AreFresh scenario.now ps.items) }
+    ensures fresh { IfOk result (λ ps. AreFresh scenario.now ps.items) }
+    ensures fits { IsScenario scenario.now }
 {
     let mut pickers = Vec::new(alloc);
     for switch in scenario.switches() {
