@@ -1,0 +1,41 @@
+//! The answer for a flow (docs/DEFINITIONS.md, Answer).
+ghost use Rattle.std.specs.Prelude.{◌≡◌, ◌<◌};
+ghost use Rattle.std.specs.Option.{option_map};
+ghost use Rattle.lg_model.specs.Answer.{look_in, known_at, answer as answer_by};
+ghost use Rattle.lg_model.specs.Sketch.{bucket_in};
+
+use crate::least::Known;
+use column_book::Book;
+use flow_key::FlowKey;
+use lg_model::{Answer, Bucket, Key};
+use row_hash::places;
+
+// The bucket of a row in the column under that key, if it is kept.
+fn bucket_of(book: &Book, key: &Key, row: u8) -> Option<Bucket>
+    requires { row < book.now.shape.rows }
+    ensures { result ≡ option_map (λ buckets. bucket_in buckets row) (look_in book.now.content key.now.switch key.now.epoch key.now.index) }
+{
+    let column = book.find(key)?;
+    Some(column.bucket(row))
+}
+
+/// What the book tells of a flow at the switch of that name in that epoch: the known rows are those whose column is in
+/// the book, and each value is told of the least counter over the known rows. Takes no memory.
+pub fn answer(book: &Book, switch: u16, epoch: u32, key: &FlowKey) -> Answer
+    ensures { result ≡ answer_by (look_in book.now.content) book.now.shape switch epoch key.now }
+{
+    let shape = book.shape();
+    let places = places(&shape, key);
+    let mut known = Known::none();
+    for row in 0..shape.rows() {
+        let place = Key {
+            switch,
+            epoch,
+            index: places.row(row),
+        };
+        if let Some(bucket) = bucket_of(book, &place, row) {
+            known.add(bucket);
+        }
+    }
+    known.answer()
+}

@@ -1,0 +1,13 @@
+//! What a book tells of a flow.
+//!
+//! | Item | What it is |
+//! |---|---|
+//! | [`answer`] | the least counters of the flow's known rows |
+//! | [`Answer`], [`Value`] | what is told of a flow and of a counter, of the model's crate |
+#![tactic(auto)]
+
+mod asking;
+mod least;
+
+pub use asking::answer;
+pub use lg_model::{Answer, Value};

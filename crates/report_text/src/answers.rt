@@ -1,0 +1,84 @@
+//! The lines of a report.
+ghost use Rattle.std.specs.Prelude.{◌≡◌, ◌++◌, ◌∷◌, [], codes, OnOk, IfOk};
+ghost use Rattle.std.specs.Fmt.{decimal};
+ghost use Rattle.lg_model.specs.Report.{value_text, answer_line as line_of, columns_line};
+ghost use Rattle.report_text.specs.Lines.{field};
+
+use crate::pieces::{put_field, put_number, put_text};
+use lg_base::Memory;
+use lg_model::{Answer, Value};
+use std::alloc::Global;
+
+// A number, `unknown` or `saturated`, behind a word.
+fn put_value(out: &mut Vec<u8>, word: &[u8], value: Value) -> Result<(), Memory>
+    ensures { OnOk result (out.new.items ≡ out.old.items ++ (word.now ++ value_text value)) }
+{
+    put_text(out, word)?;
+    match value {
+        Value::Unknown => put_text(out, b"unknown"),
+        Value::AtMost(n) => put_number(out, u64::from(n)),
+        Value::Saturated => put_text(out, b"saturated"),
+    }
+}
+
+// The question: `flow F switch S epoch E`.
+fn put_question(out: &mut Vec<u8>, flow: u16, switch: u16, epoch: u32) -> Result<(), Memory>
+    ensures { OnOk result (out.new.items ≡ out.old.items ++ (field (codes "flow ") flow ++ field (codes " switch ") switch ++ field (codes " epoch ") epoch)) }
+{
+    put_field(out, b"flow ", u64::from(flow))?;
+    put_field(out, b" switch ", u64::from(switch))?;
+    put_field(out, b" epoch ", u64::from(epoch))
+}
+
+// What is told: ` rows K of R bytes B delay D`.
+fn put_told(out: &mut Vec<u8>, rows: u8, answer: &Answer) -> Result<(), Memory>
+    ensures { OnOk result (out.new.items ≡ out.old.items ++ (field (codes " rows ") answer.now.rows_known ++ field (codes " of ") rows
+        ++ (codes " bytes " ++ value_text answer.now.bytes) ++ codes " delay " ++ value_text answer.now.delay)) }
+{
+    put_field(out, b" rows ", u64::from(answer.rows_known))?;
+    put_field(out, b" of ", u64::from(rows))?;
+    put_value(out, b" bytes ", answer.bytes)?;
+    put_value(out, b" delay ", answer.delay)
+}
+
+/// Appends `flow F switch S epoch E rows K of R bytes B delay D` and the byte 10.
+#[tactic(auto, unfolding(lg_model::specs::Report::answer_line))]
+pub fn put_answer_line(
+    out: &mut Vec<u8>,
+    flow: u16,
+    switch: u16,
+    epoch: u32,
+    rows: u8,
+    answer: &Answer,
+) -> Result<(), Memory>
+    ensures { OnOk result (out.new.items ≡ out.old.items ++ line_of flow switch epoch rows answer.now) }
+{
+    put_question(out, flow, switch, epoch)?;
+    put_told(out, rows, answer)?;
+    put_text(out, b"\n")
+}
+
+/// The line of an answer. The flow, the switch and the epoch are those of the question, `rows` the rows of the shape.
+pub fn answer_line(
+    alloc: Global,
+    flow: u16,
+    switch: u16,
+    epoch: u32,
+    rows: u8,
+    answer: &Answer,
+) -> Result<Vec<u8>, Memory>
+    ensures { IfOk result (λ line. line.items ≡ line_of flow switch epoch rows answer.now) }
+{
+    let mut line = Vec::new(alloc);
+    put_answer_line(&mut line, flow, switch, epoch, rows, answer)?;
+    Ok(line)
+}
+
+/// Appends `columns N` and the byte 10.
+#[tactic(auto, unfolding(lg_model::specs::Report::columns_line))]
+pub fn put_columns_line(out: &mut Vec<u8>, count: usize) -> Result<(), Memory>
+    ensures { OnOk result (out.new.items ≡ out.old.items ++ columns_line count) }
+{
+    put_field(out, b"columns ", count as u64)?;
+    put_text(out, b"\n")
+}
