@@ -1,5 +1,5 @@
 -- Lists that stand for each other item by item.
-use Rattle.std.specs.Prelude.{◌≡◌, ℕ, ◌+◌, List, [], ◌∷◌, ◌++◌, length, Option, None, Some}
+use Rattle.std.specs.Prelude.{◌≡◌, ℕ, zero, suc, ◌+◌, ◌<◌, slice_index_or, List, [], ◌∷◌, ◌++◌, length, Option, None, Some}
 use Rattle.std.proofs.Common.{refl, ap, subst, sym, ◌∙◌, arith}
 use Rattle.lg_model.specs.Matching.{Matched, MatchedOption}
 
@@ -38,3 +38,9 @@ matched_length R [] [] h = refl
 matched_length R [] (y ∷ ys) h = absurd h
 matched_length R (x ∷ xs) [] h = absurd h
 matched_length R (x ∷ xs) (y ∷ ys) h = let rest = matched_length R xs ys h.1 in let e : length (x ∷ xs) ≡ length (y ∷ ys) = omega arith in e
+
+pub matched_at : {X Y : Type 0} (R : X → Y → Type 0) (xs : List X) (ys : List Y) (i : ℕ) (x : X) (y : Y) → Matched R xs ys → i < length xs → R (slice_index_or xs i x) (slice_index_or ys i y)
+matched_at R [] ys i x y h inside = absurd (omega arith)
+matched_at R (a ∷ xs) [] i x y h inside = absurd h
+matched_at R (a ∷ xs) (b ∷ ys) zero x y h inside = h.0
+matched_at R (a ∷ xs) (b ∷ ys) (suc i) x y h inside = matched_at R xs ys i x y h.1 (omega arith)

@@ -1,0 +1,31 @@
+//! The program `guardian`: the top call over the standard streams.
+#![tactic(auto)]
+
+use guardian_run::guardian;
+use lg_base::{StdSink, StdSource};
+use std::env;
+use std::io;
+use std::process::ExitCode;
+use std::rt::Env;
+
+// The exit status where the words cannot be had, as for want of memory.
+const NO_WORDS: u8 = 11;
+
+// The words behind the program's name.
+fn words<R: Env + AllocGlobal>(rt: &R) -> io::Result<Vec<String>> {
+    let mut words = Vec::new(rt.alloc());
+    for word in env::args(rt)?.skip(1) {
+        words.push(word)?;
+    }
+    Ok(words)
+}
+
+fn main(rt: HostRuntime) -> ExitCode {
+    let Ok(words) = words(&rt) else {
+        return ExitCode::from(NO_WORDS);
+    };
+    let mut source = StdSource::new(rt.reader());
+    let mut sink = StdSink::new(io::writer(&rt));
+    let status = guardian(rt.alloc(), &words, &mut source, &mut sink);
+    ExitCode::from(status.code())
+}

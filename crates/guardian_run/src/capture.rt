@@ -1,0 +1,51 @@
+//! The sketchlets that came to the hosts, as text.
+ghost use Rattle.std.specs.Prelude.{◌≡◌, ◌<◌, ◌≤◌, ◌+◌, ◌++◌, ◌^◌, length, slice_index_or, IfOk};
+ghost use Rattle.lg_model.specs.Matching.{Matched};
+ghost use Rattle.lg_model.specs.Carrying.{picked};
+ghost use Rattle.lg_model.specs.Arriving.{brought};
+ghost use Rattle.lg_model.specs.declared.scenario.HostLine.{HostLine};
+ghost use Rattle.path_sim.specs.Parts.{IsOf};
+ghost use Rattle.path_sim.specs.Arrived.{HaveArrived};
+ghost use Rattle.guardian_run.specs.Outputs.{host_lines, capture_of};
+
+use lg_base::Memory;
+use lg_model::HostLine;
+use path_sim::Arrivals;
+use report_text::{put_hex_line, put_sketchlets_line};
+use scenario_text::Scenario;
+use sketchlet_wire::Packed;
+use std::alloc::Global;
+
+// The lines of what came to the host at a position. Memory where there is none for one of them.
+fn put_host(
+    scenario: &Scenario,
+    host_at: u16,
+    host: &HostLine,
+    arrived: &[Packed],
+    text: &mut Vec<u8>,
+) -> Result<(), Memory>
+    requires { Matched (IsOf scenario.now) arrived.now (brought scenario.now (picked scenario.now) host_at) }
+    ensures { IfOk result (λ _. text.new.items ≡ text.old.items ++ host_lines scenario.now (host_at, host.now)) }
+{
+    for packed in arrived {
+        put_hex_line(text, host.name, packed)?;
+    }
+    Ok(())
+}
+
+/// The lines of all that came to the hosts, host after host, and how many they are. Memory where there is none for them.
+pub fn capture(alloc: Global, scenario: &Scenario, arrivals: &Arrivals) -> Result<Vec<u8>, Memory>
+    requires { HaveArrived scenario.now (picked scenario.now) arrivals.now.inboxes }
+    ensures { IfOk result (λ text. text.items ≡ capture_of scenario.now) }
+{
+    let mut text = Vec::new(alloc);
+    let mut count = 0;
+    let hosts = scenario.hosts();
+    for at in 0..hosts.len() {
+        let arrived = arrivals.arrived(at as u16);
+        put_host(scenario, at as u16, &hosts[at], arrived, &mut text)?;
+        count += arrived.len();
+    }
+    put_sketchlets_line(&mut text, count)?;
+    Ok(text)
+}

@@ -1,0 +1,36 @@
+//! How the program ends.
+ghost use Rattle.std.specs.Prelude.{◌≡◌};
+ghost use Rattle.guardian_run.specs.Statuses.{code_of};
+
+/// How the program ends (docs/FORMATS.md, Fault lines and exit statuses).
+#[derive(Clone, Copy, Debug, PartialEq, Eq)]
+pub enum Status {
+    /// The output was written.
+    Ok,
+    /// The words are no command.
+    BadWords,
+    /// The input is no scenario text.
+    BadScenario,
+    /// The source failed.
+    ReadFault,
+    /// All was well, but the sink failed.
+    WriteFault,
+    /// No memory was found.
+    NoMemory,
+}
+
+impl Status {
+    /// The exit status.
+    pub fn code(&self) -> u8
+        ensures { result ≡ code_of self.now }
+    {
+        match self {
+            Status::Ok => 0,
+            Status::BadWords => 1,
+            Status::BadScenario => 2,
+            Status::ReadFault => 3,
+            Status::WriteFault => 4,
+            Status::NoMemory => 11,
+        }
+    }
+}

@@ -1,0 +1,13 @@
+//! The words of the command line (docs/FORMATS.md, Command line).
+//!
+//! | Item | What it is |
+//! |---|---|
+//! | [`Command`] | what the words ask for |
+//! | [`command`] | the command of some words |
+#![tactic(auto)]
+
+mod asked;
+mod words;
+
+pub use asked::Command;
+pub use words::command;
