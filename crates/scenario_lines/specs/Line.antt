@@ -8,7 +8,7 @@ use Rattle.lg_model.specs.declared.scenario.HostLine.{HostLine}
 use Rattle.lg_model.specs.declared.scenario.Step.TheVariants as steps
 use Rattle.lg_model.specs.Scenario.{packet_count}
 use Rattle.scenario_lines.specs.declared.why.Why.{Why}
-use Rattle.scenario_lines.specs.declared.why.Why.TheVariants.{Version, OutOfPlace, UnknownWord, WordCount, Repeated, UnknownName, NotYet}
+use Rattle.scenario_lines.specs.declared.why.Why.TheVariants.{Version, OutOfPlace, UnknownWord, WordCount, Repeated, UnknownName}
 use Rattle.scenario_lines.specs.declared.section.Section.TheVariants.{Second, Third, Declarations, Steps, Done}
 use Rattle.scenario_lines.specs.declared.section.Keyword.{Keyword}
 use Rattle.scenario_lines.specs.declared.section.Keyword.TheVariants as words
@@ -162,33 +162,11 @@ abbrev pub known_line : Option Keyword → State → Words → Result State Why
 known_line None s ws = Err UnknownWord
 known_line (Some k) s ws = if has_place s.section k then form_of k s ws else Err OutOfPlace
 
--- ---- forms that the rest of the program doesn't have yet
-
-abbrev pub is_later_word : List ℕ → Bool
-is_later_word w = bytes_eq w (codes "link") || bytes_eq w (codes "release") || bytes_eq w (codes "seed") || bytes_eq w (codes "chance") || bytes_eq w (codes "burst") || bytes_eq w (codes "lost") || bytes_eq w (codes "twice") || bytes_eq w (codes "late") || bytes_eq w (codes "all")
-
--- The words behind the first word `path`.
-unfoldable pub behind_path : Words → Words
-behind_path [] = []
-behind_path (w ∷ ws) = if bytes_eq w (codes "path") then ws else behind_path ws
-
--- A host or a switch beside another one, or a flow over more than one switch.
-unfoldable pub is_second : State → Words → Bool
-is_second s [] = false
-is_second s (w ∷ ws) =
-    if bytes_eq w (codes "host") then nat_lt 0 (length s.hosts) else (
-    if bytes_eq w (codes "switch") then nat_lt 0 (length s.switches) else (
-    if bytes_eq w (codes "flow") then nat_lt 1 (length (behind_path (w ∷ ws))) else false))
-
--- The line is of a form that isn't built.
-abbrev pub is_not_built : State → Words → Bool
-is_not_built s ws = list_any is_later_word ws || is_second s ws
-
 -- ---- lines
 
 abbrev pub words_line : State → Words → Result State Why
 words_line s [] = Err UnknownWord
-words_line s (w ∷ ws) = if is_not_built s (w ∷ ws) then Err NotYet else known_line (keyword_of w) s ws
+words_line s (w ∷ ws) = known_line (keyword_of w) s ws
 
 abbrev pub first_line : State → List ℕ → Result State Why
 first_line s line = if bytes_eq line (codes "guardian 1") then Ok (record s { section = Second }) else Err Version

@@ -1,5 +1,5 @@
--- The words that write the parts of a line, and how many bytes words take.
-use Rattle.std.specs.Prelude.{ℕ, ◌+◌, List, [], ◌∷◌, length, codes, ◌==◌, if◌then◌else◌}
+-- The words that write the parts of a scenario, the texts of words, and how many bytes words take.
+use Rattle.std.specs.Prelude.{ℕ, ◌+◌, List, [], ◌∷◌, ◌++◌, length, map, codes, ◌==◌, if◌then◌else◌, slice_index}
 use Rattle.std.specs.Fmt.{decimal}
 use Rattle.flow_key.specs.declared.key.FlowKey.{FlowKey}
 use Rattle.flow_key.specs.KeyText.{dotted}
@@ -7,12 +7,35 @@ use Rattle.lg_model.specs.declared.scenario.Hash.{Hash}
 use Rattle.lg_model.specs.declared.scenario.Hash.TheVariants as hashes
 use Rattle.lg_model.specs.declared.scenario.Pick.{Pick}
 use Rattle.lg_model.specs.declared.scenario.Pick.TheVariants as picks
+use Rattle.lg_model.specs.declared.scenario.Letter.{Letter}
+use Rattle.lg_model.specs.declared.scenario.Letter.TheVariants as letters
+use Rattle.lg_model.specs.declared.scenario.HostLine.{HostLine}
+use Rattle.lg_model.specs.declared.scenario.Flow.{Flow}
 use Rattle.lg_model.specs.declared.scenario.Fate.{Fate}
 use Rattle.lg_model.specs.declared.scenario.Fate.TheVariants as fates
+use Rattle.lg_model.specs.declared.scenario.Step.{Step}
+use Rattle.lg_model.specs.declared.scenario.Step.TheVariants as steps
+use Rattle.lg_model.specs.declared.scenario.Ask.{Ask}
+use Rattle.lg_model.specs.Placing.{Shape}
+use Rattle.scenario_lines.specs.Counts.{names_of}
 
 -- The words of a line.
 abbrev pub Words : Type 0
 Words = List (List ℕ)
+
+-- The text of words, each behind a space.
+abbrev pub spaced : Words → List ℕ
+spaced [] = []
+spaced (w ∷ ws) = 32 ∷ (w ++ spaced ws)
+
+-- The text of words, with one space between each two.
+abbrev pub joined : Words → List ℕ
+joined [] = []
+joined (w ∷ ws) = w ++ spaced ws
+
+-- The text of a line of these words, with its 0A.
+abbrev pub line_text : Words → List ℕ
+line_text ws = joined ws ++ 10 ∷ []
 
 -- The bytes of words with one byte behind each.
 abbrev pub size : Words → ℕ
@@ -43,3 +66,65 @@ fate_words fates.Straight = []
 fate_words (fates.Lost k) = codes "lost" ∷ decimal k ∷ []
 fate_words fates.Twice = codes "twice" ∷ []
 fate_words fates.Late = codes "late" ∷ []
+
+-- ---- whole lines
+
+-- The words of the first line.
+abbrev pub guardian_words : Words
+guardian_words = codes "guardian" ∷ codes "1" ∷ []
+
+-- The words of the line of a shape.
+abbrev pub shape_words : Shape → Words
+shape_words s = codes "shape" ∷ decimal s.rows ∷ decimal s.width ∷ hash_words s.hash
+
+-- The words of the line of a pick.
+abbrev pub pick_line_words : Pick → Words
+pick_line_words p = codes "pick" ∷ pick_words p
+
+-- The words of the line of a host's name.
+abbrev pub host_words : HostLine → Words
+host_words h = codes "host" ∷ decimal h.name ∷ []
+
+-- The words of the line of a switch.
+abbrev pub switch_words : ℕ → Words
+switch_words n = codes "switch" ∷ decimal n ∷ []
+
+-- The names of hosts, in their order.
+abbrev pub host_names : List HostLine → List ℕ
+host_names hosts = map (λ h. h.name) hosts
+
+-- The names of the switches at these positions.
+abbrev pub path_words : List ℕ → List ℕ → Words
+path_words switches path = map (λ at. decimal (slice_index switches at)) path
+
+-- The words of the line of a flow, which names its host and its switches.
+abbrev pub flow_words : List HostLine → List ℕ → Flow → Words
+flow_words hosts switches f = codes "flow" ∷ decimal f.name ∷ key_parts f.key (codes "host" ∷ decimal (slice_index (host_names hosts) f.host_at) ∷ codes "path" ∷ path_words switches f.path)
+
+-- The byte of a letter.
+abbrev pub byte_of : Letter → ℕ
+byte_of letters.Deliver = 100
+byte_of letters.Lose = 120
+byte_of letters.LoseReply = 97
+byte_of letters.Twice = 114
+byte_of letters.Hold = 104
+
+-- The words of the line of a host's letters.
+abbrev pub link_words : HostLine → Words
+link_words h = codes "link" ∷ decimal h.name ∷ map byte_of h.letters ∷ []
+
+-- The words of the line of a step.
+abbrev pub step_words : List Flow → List ℕ → Step → Words
+step_words flows switches (steps.Packet at size delays burst fate) =
+    codes "packet" ∷ decimal (slice_index (names_of flows) at) ∷ decimal size ∷ (map decimal delays ++ (burst_words burst ++ fate_words fate))
+step_words flows switches (steps.End at) = codes "end" ∷ decimal (slice_index switches at) ∷ []
+step_words flows switches steps.EndAll = codes "end" ∷ codes "all" ∷ []
+step_words flows switches steps.Release = codes "release" ∷ []
+
+-- The words of the line of an ask.
+abbrev pub ask_words : List Flow → Ask → Words
+ask_words flows q = codes "ask" ∷ decimal (slice_index (names_of flows) q.flow_at) ∷ decimal q.switch ∷ decimal q.epoch ∷ []
+
+-- The words of the last line.
+abbrev pub done_words : Words
+done_words = codes "done" ∷ []

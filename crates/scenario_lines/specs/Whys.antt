@@ -1,7 +1,7 @@
 -- The texts of the whys.
 use Rattle.std.specs.Prelude.{ℕ, List, codes}
 use Rattle.scenario_lines.specs.declared.why.Why.{Why}
-use Rattle.scenario_lines.specs.declared.why.Why.TheVariants.{Version, OutOfPlace, UnknownWord, WordCount, BadNumber, BadKey, Repeated, UnknownName, BadPath, BadWord, BadLetters, TooMany, NoDone, TooLong, NotYet}
+use Rattle.scenario_lines.specs.declared.why.Why.TheVariants.{Version, OutOfPlace, UnknownWord, WordCount, BadNumber, BadKey, Repeated, UnknownName, BadPath, BadWord, BadLetters, TooMany, NoDone, TooLong}
 
 -- The text of a why, as fault lines print it.
 abbrev pub why_text : Why → List ℕ
@@ -19,4 +19,3 @@ why_text BadLetters = codes "bad letters"
 why_text TooMany = codes "too many"
 why_text NoDone = codes "no done"
 why_text TooLong = codes "too long"
-why_text NotYet = codes "not yet"

@@ -15,7 +15,6 @@ mod fields;
 mod header;
 mod index;
 mod keys;
-mod later;
 mod line;
 mod lists;
 mod names;

@@ -49,9 +49,6 @@ impl Draft {
         ensures leaves { Leaves result (view self.new) (words_line (view self.old) (words_at 32 line.now)) }
     {
         let (first, text) = words::cut(line, b' ');
-        if self.is_not_built(line) {
-            return Err(LineFault::Bad(Why::NotYet));
-        }
         self.form(Keyword::of(first), text)
     }
 

@@ -19,7 +19,7 @@ fn lines_of_a_small_text(rt: HostRuntime) -> Result<(), Fail> {
     draft.line(b"ask 3 7 0")?;
     assert!(rt; !draft.is_done());
     assert_eq!(rt; draft.section, Section::Steps);
-    assert_eq!(rt; draft.line(b"host 2"), Err(LineFault::Bad(Why::NotYet)));
+    assert_eq!(rt; draft.line(b"host 2"), Err(LineFault::Bad(Why::OutOfPlace)));
     Ok(())
 }
 
@@ -51,7 +51,6 @@ fn texts_of_the_whys(rt: HostRuntime) {
         (Why::TooMany, "too many"),
         (Why::NoDone, "no done"),
         (Why::TooLong, "too long"),
-        (Why::NotYet, "not yet"),
     ] {
         assert_eq!(rt; why.text(), text.as_bytes());
     }

@@ -33,8 +33,6 @@ pub enum Why {
     NoDone,
     /// No line `done` stands in the first 16,777,216 bytes.
     TooLong,
-    /// The line is of a form that isn't built.
-    NotYet,
 }
 
 impl Why {
@@ -57,7 +55,6 @@ impl Why {
             Why::TooMany => b"too many",
             Why::NoDone => b"no done",
             Why::TooLong => b"too long",
-            Why::NotYet => b"not yet",
         }
     }
 }

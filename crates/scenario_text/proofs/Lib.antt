@@ -4,3 +4,4 @@ pub mod ReadLemmas
 pub mod TookLemmas
 pub mod DecidingLemmas
 pub mod WorkedTexts
+pub mod PrintLemmas

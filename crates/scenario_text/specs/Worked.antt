@@ -41,6 +41,6 @@ pub record WorkedTexts : Type 0 where
   pub one_unfinished_line : reading (codes "guardian 1") ≡ Err (1, whys.NoDone)
   pub too_wide : reading (text (codes "guardian 1" ∷ codes "shape 2 4097 ports" ∷ [])) ≡ Err (2, whys.BadNumber)
   pub other_switch : reading (first_text (codes "ask 1 2 0")) ≡ Err (10, whys.UnknownName)
-  pub two_hops : reading (with_head (codes "flow 1 10.0.0.1 10.0.0.2 6 2 1 host 1 path 1 1" ∷ [])) ≡ Err (6, whys.NotYet)
+  pub switch_twice : reading (with_head (codes "flow 1 10.0.0.1 10.0.0.2 6 2 1 host 1 path 1 1" ∷ [])) ≡ Err (6, whys.Repeated)
   pub no_key : reading (with_head (codes "flow 1 10.0.0.1 x" ∷ [])) ≡ Err (6, whys.BadKey)
   pub part_of_a_key : reading (with_head (codes "flow 1 10.0.0.1" ∷ [])) ≡ Err (6, whys.WordCount)

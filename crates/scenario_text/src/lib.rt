@@ -1,14 +1,20 @@
-//! Scenario texts: reading a scenario from a source of bytes.
+//! Scenario texts: reading a scenario from a source of bytes, and printing one.
 //!
 //! | Item | What it is |
 //! |---|---|
 //! | [`Scenario`] | the parts of a scenario, which fit each other |
 //! | [`read`] | the scenario that the bytes of a source say |
+//! | [`print`] | the text of a scenario |
 //! | [`ScenarioFault`], [`Why`] | why there is none: a faulty line and its why, a failed source, want of memory |
 #![tactic(auto)]
 
 mod fault;
 mod laws;
+mod printing;
+mod put;
+mod put_declared;
+mod put_first;
+mod put_steps;
 mod reader;
 mod reading;
 mod scenario;
@@ -17,6 +23,7 @@ mod tests;
 
 pub use fault::ScenarioFault;
 pub use laws::{prefix_decides, worked_texts};
+pub use printing::print;
 pub use reading::read;
 pub use scenario::Scenario;
 pub use scenario_lines::Why;

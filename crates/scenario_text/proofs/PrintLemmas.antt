@@ -1,0 +1,27 @@
+-- A line written in two parts.
+use Rattle.std.proofs.Common.{◌≡◌, ◌<◌, ℕ, true, All, List, [], ◌∷◌, ◌++◌, refl, ◌∙◌, append_assoc, arith}
+use Rattle.std.specs.Prelude.{nat_lt}
+use Rattle.std.specs.List.{list_all}
+use Rattle.std.proofs.lemmas.List.Sums.{list_all-from_AllPass}
+use Rattle.scenario_lines.specs.Spelling.{Words, spaced, joined, line_text}
+
+spaced_append : (ws vs : Words) → spaced (ws ++ vs) ≡ spaced ws ++ spaced vs
+spaced_append [] vs = refl
+spaced_append (w ∷ ws) vs = rw (spaced_append ws vs, append_assoc w (spaced ws) (spaced vs)) refl
+
+pub two_parts : (old one two : List ℕ) (w : List ℕ) (ws vs : Words) → one ≡ old ++ joined (w ∷ ws) → two ≡ one ++ spaced vs → two ≡ old ++ joined (w ∷ (ws ++ vs))
+two_parts old one two w ws vs a b = b ∙ rw (a, spaced_append ws vs, append_assoc, append_assoc) refl
+
+pub with_end : (old two : List ℕ) (ws : Words) → two ≡ old ++ joined ws → two ++ 10 ∷ [] ≡ old ++ line_text ws
+with_end old two ws e = rw (e, append_assoc) refl
+
+pub more_words : (old one : List ℕ) (w : List ℕ) (ws vs : Words) → one ≡ old ++ joined (w ∷ ws) → one ++ spaced vs ≡ old ++ joined (w ∷ (ws ++ vs))
+more_words old one w ws vs a = two_parts old one (one ++ spaced vs) w ws vs a refl
+
+-- ---- paths
+
+under : (a b : ℕ) → a < b → nat_lt a b ≡ true
+under a b lt = grind arith
+
+pub path_within : (n : ℕ) (path : List ℕ) → All (λ s. s < n) path → list_all (λ at. nat_lt at n) path ≡ true
+path_within n path within = list_all-from_AllPass (λ at. nat_lt at n) path (λ i d lt. under _ n (within i d lt))
