@@ -9,7 +9,7 @@
 //!
 //! A `put` appends to the bytes of a list. Every line ends with the byte 10. At `Memory` a front of the line may have
 //! been appended.
-#![tactic(auto)]
+#![tactic(auto, using(crate::proofs::Keeping::keeps_itself, crate::proofs::Keeping::keeps_after))]
 
 mod answers;
 mod captures;
