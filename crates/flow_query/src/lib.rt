@@ -10,6 +10,8 @@
 mod asking;
 mod laws;
 mod least;
+#[cfg(test)]
+mod tests;
 
 pub use asking::answer;
 pub use laws::answers_are_exact;

@@ -12,5 +12,5 @@ pub keeps_after : (before text middle after : List ℕ) → middle ≡ before ++
 keeps_after before text middle after is keeps =
     let rest = drop (length middle) after in
     let whole : after ≡ before ++ (text ++ rest)
-      = sym (take-append-drop (length middle) after) ∙ ap (λ (front : List ℕ). front ++ rest) (keeps.front ∙ is) ∙ append_assoc before text rest in
+    = sym (take-append-drop (length middle) after) ∙ ap (λ (front : List ℕ). front ++ rest) (keeps.front ∙ is) ∙ append_assoc before text rest in
     record { front = ap (λ (all : List ℕ). take (length before) all) whole ∙ take_at before (text ++ rest) (length before) refl }

@@ -14,6 +14,8 @@
 mod answers;
 mod captures;
 mod pieces;
+#[cfg(test)]
+mod tests;
 
 pub use answers::{answer_line, put_answer_line, put_columns_line};
 pub use captures::{hex_line, put_hex_line, put_sketchlets_line};
