@@ -8,6 +8,8 @@
 #![tactic(auto)]
 
 mod book;
+#[cfg(test)]
+mod tests;
 
 pub use book::Book;
 pub use lg_model::Key;

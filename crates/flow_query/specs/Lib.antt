@@ -1,2 +1,2 @@
 pub mod Least
-pub mod Unknown
+pub mod Told

@@ -1,8 +1,8 @@
 //! The lines of a report.
-ghost use Rattle.std.specs.Prelude.{◌≡◌, ◌++◌, ◌∷◌, [], codes, OnOk, IfOk};
+ghost use Rattle.std.specs.Prelude.{◌≡◌, ◌++◌, ◌∷◌, [], codes, IfOk};
 ghost use Rattle.std.specs.Fmt.{decimal};
 ghost use Rattle.lg_model.specs.Report.{value_text, answer_line as line_of, columns_line};
-ghost use Rattle.report_text.specs.Lines.{field};
+ghost use Rattle.report_text.specs.Lines.{field, AppendsText};
 
 use crate::pieces::{put_field, put_number, put_text};
 use lg_base::Memory;
@@ -11,7 +11,7 @@ use std::alloc::Global;
 
 // A number, `unknown` or `saturated`, behind a word.
 fn put_value(out: &mut Vec<u8>, word: &[u8], value: Value) -> Result<(), Memory>
-    ensures { OnOk result (out.new.items ≡ out.old.items ++ (word.now ++ value_text value)) }
+    ensures { AppendsText result out.old.items out.new.items (word.now ++ value_text value) }
 {
     put_text(out, word)?;
     match value {
@@ -23,26 +23,28 @@ fn put_value(out: &mut Vec<u8>, word: &[u8], value: Value) -> Result<(), Memory>
 
 // The question: `flow F switch S epoch E`.
 fn put_question(out: &mut Vec<u8>, flow: u16, switch: u16, epoch: u32) -> Result<(), Memory>
-    ensures { OnOk result (out.new.items ≡ out.old.items ++ (field (codes "flow ") flow ++ field (codes " switch ") switch ++ field (codes " epoch ") epoch)) }
+    ensures { AppendsText result out.old.items out.new.items (field (codes "flow ") flow ++ field (codes " switch ") switch ++ field (codes " epoch ") epoch) }
 {
     put_field(out, b"flow ", u64::from(flow))?;
     put_field(out, b" switch ", u64::from(switch))?;
-    put_field(out, b" epoch ", u64::from(epoch))
+    put_field(out, b" epoch ", u64::from(epoch))?;
+    Ok(())
 }
 
 // What is told: ` rows K of R bytes B delay D`.
 fn put_told(out: &mut Vec<u8>, rows: u8, answer: &Answer) -> Result<(), Memory>
-    ensures { OnOk result (out.new.items ≡ out.old.items ++ (field (codes " rows ") answer.now.rows_known ++ field (codes " of ") rows
-        ++ (codes " bytes " ++ value_text answer.now.bytes) ++ codes " delay " ++ value_text answer.now.delay)) }
+    ensures { AppendsText result out.old.items out.new.items (field (codes " rows ") answer.now.rows_known ++ field (codes " of ") rows
+        ++ (codes " bytes " ++ value_text answer.now.bytes) ++ codes " delay " ++ value_text answer.now.delay) }
 {
     put_field(out, b" rows ", u64::from(answer.rows_known))?;
     put_field(out, b" of ", u64::from(rows))?;
     put_value(out, b" bytes ", answer.bytes)?;
-    put_value(out, b" delay ", answer.delay)
+    put_value(out, b" delay ", answer.delay)?;
+    Ok(())
 }
 
 /// Appends `flow F switch S epoch E rows K of R bytes B delay D` and the byte 10.
-#[tactic(auto, unfolding(lg_model::specs::Report::answer_line))]
+#[tactic(auto, using(crate::proofs::Keeping::keeps_itself, crate::proofs::Keeping::keeps_after), unfolding(lg_model::specs::Report::answer_line))]
 pub fn put_answer_line(
     out: &mut Vec<u8>,
     flow: u16,
@@ -51,11 +53,12 @@ pub fn put_answer_line(
     rows: u8,
     answer: &Answer,
 ) -> Result<(), Memory>
-    ensures { OnOk result (out.new.items ≡ out.old.items ++ line_of flow switch epoch rows answer.now) }
+    ensures { AppendsText result out.old.items out.new.items (line_of flow switch epoch rows answer.now) }
 {
     put_question(out, flow, switch, epoch)?;
     put_told(out, rows, answer)?;
-    put_text(out, b"\n")
+    put_text(out, b"\n")?;
+    Ok(())
 }
 
 /// The line of an answer. The flow, the switch and the epoch are those of the question, `rows` the rows of the shape.
@@ -75,9 +78,9 @@ pub fn answer_line(
 }
 
 /// Appends `columns N` and the byte 10.
-#[tactic(auto, unfolding(lg_model::specs::Report::columns_line))]
+#[tactic(auto, using(crate::proofs::Keeping::keeps_itself, crate::proofs::Keeping::keeps_after), unfolding(lg_model::specs::Report::columns_line))]
 pub fn put_columns_line(out: &mut Vec<u8>, count: usize) -> Result<(), Memory>
-    ensures { OnOk result (out.new.items ≡ out.old.items ++ columns_line count) }
+    ensures { AppendsText result out.old.items out.new.items (columns_line count) }
 {
     put_field(out, b"columns ", count as u64)?;
     put_text(out, b"\n")

@@ -1,8 +1,8 @@
 //! The lines of a capture.
-ghost use Rattle.std.specs.Prelude.{◌≡◌, ◌++◌, ◌≤◌, OnOk, IfOk};
+ghost use Rattle.std.specs.Prelude.{◌≡◌, ◌++◌, ◌≤◌, IfOk};
 ghost use Rattle.hex.specs.Hex.{encode_lower};
 ghost use Rattle.sketchlet_wire.specs.Packing.{packed_bytes};
-ghost use Rattle.report_text.specs.Lines.{hex_line as line_of, sketchlets_line};
+ghost use Rattle.report_text.specs.Lines.{hex_line as line_of, sketchlets_line, AppendsText};
 
 use crate::pieces::{put_field, put_text};
 use hex::encode_to_slice;
@@ -13,7 +13,7 @@ use std::alloc::Global;
 // Two lower-case digits a byte. The length is at most 62.
 fn put_digits(out: &mut Vec<u8>, packed: &Packed) -> Result<(), Memory>
     requires { packed.now.len ≤ 62 }
-    ensures { OnOk result (out.new.items ≡ out.old.items ++ encode_lower (packed_bytes packed.now)) }
+    ensures { AppendsText result out.old.items out.new.items (encode_lower (packed_bytes packed.now)) }
 {
     let bytes = packed.spelled();
     let mut digits = [0; 124];
@@ -24,10 +24,10 @@ fn put_digits(out: &mut Vec<u8>, packed: &Packed) -> Result<(), Memory>
 
 /// Appends `host H X`, X being the bytes that count in lower-case hexadecimal, and the byte 10. The length is at most
 /// 62.
-#[tactic(auto, unfolding(crate::specs::Lines::hex_line))]
+#[tactic(auto, using(crate::proofs::Keeping::keeps_itself, crate::proofs::Keeping::keeps_after), unfolding(crate::specs::Lines::hex_line))]
 pub fn put_hex_line(out: &mut Vec<u8>, host: u16, packed: &Packed) -> Result<(), Memory>
     requires { packed.now.len ≤ 62 }
-    ensures { OnOk result (out.new.items ≡ out.old.items ++ line_of host (packed_bytes packed.now)) }
+    ensures { AppendsText result out.old.items out.new.items (line_of host (packed_bytes packed.now)) }
 {
     put_field(out, b"host ", u64::from(host))?;
     put_text(out, b" ")?;
@@ -46,9 +46,9 @@ pub fn hex_line(alloc: Global, host: u16, packed: &Packed) -> Result<Vec<u8>, Me
 }
 
 /// Appends `sketchlets N` and the byte 10.
-#[tactic(auto, unfolding(crate::specs::Lines::sketchlets_line))]
+#[tactic(auto, using(crate::proofs::Keeping::keeps_itself, crate::proofs::Keeping::keeps_after), unfolding(crate::specs::Lines::sketchlets_line))]
 pub fn put_sketchlets_line(out: &mut Vec<u8>, count: usize) -> Result<(), Memory>
-    ensures { OnOk result (out.new.items ≡ out.old.items ++ sketchlets_line count) }
+    ensures { AppendsText result out.old.items out.new.items (sketchlets_line count) }
 {
     put_field(out, b"sketchlets ", count as u64)?;
     put_text(out, b"\n")

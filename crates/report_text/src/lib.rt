@@ -9,11 +9,13 @@
 //!
 //! A `put` appends to the bytes of a list. Every line ends with the byte 10. At `Memory` a front of the line may have
 //! been appended.
-#![tactic(auto)]
+#![tactic(auto, using(crate::proofs::Keeping::keeps_itself, crate::proofs::Keeping::keeps_after))]
 
 mod answers;
 mod captures;
 mod pieces;
+#[cfg(test)]
+mod tests;
 
 pub use answers::{answer_line, put_answer_line, put_columns_line};
 pub use captures::{hex_line, put_hex_line, put_sketchlets_line};

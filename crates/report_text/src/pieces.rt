@@ -1,14 +1,14 @@
 //! What lines are written with.
-ghost use Rattle.std.specs.Prelude.{◌≡◌, ◌++◌, OnOk};
+ghost use Rattle.std.specs.Prelude.{◌≡◌, ◌++◌};
 ghost use Rattle.std.specs.Fmt.{decimal};
-ghost use Rattle.report_text.specs.Lines.{field};
+ghost use Rattle.report_text.specs.Lines.{field, AppendsOrNot, AppendsText};
 
 use itoa::Buffer;
 use lg_base::Memory;
 
 /// Appends bytes. At `Memory` none is appended.
 pub fn put_text(out: &mut Vec<u8>, text: &[u8]) -> Result<(), Memory>
-    ensures { OnOk result (out.new.items ≡ out.old.items ++ text.now) }
+    ensures { AppendsOrNot result out.old.items out.new.items text.now }
 {
     out.extend_from_slice(text)?;
     Ok(())
@@ -16,7 +16,7 @@ pub fn put_text(out: &mut Vec<u8>, text: &[u8]) -> Result<(), Memory>
 
 /// Appends a number in decimal, with no leading zeros. At `Memory` nothing is appended.
 pub fn put_number(out: &mut Vec<u8>, n: u64) -> Result<(), Memory>
-    ensures { OnOk result (out.new.items ≡ out.old.items ++ decimal n) }
+    ensures { AppendsOrNot result out.old.items out.new.items (decimal n) }
 {
     let mut digits = Buffer::new();
     put_text(out, digits.format(n).as_bytes())
@@ -24,7 +24,7 @@ pub fn put_number(out: &mut Vec<u8>, n: u64) -> Result<(), Memory>
 
 // Appends a word with its spaces, and a number.
 pub(crate) fn put_field(out: &mut Vec<u8>, word: &[u8], n: u64) -> Result<(), Memory>
-    ensures { OnOk result (out.new.items ≡ out.old.items ++ field word.now n) }
+    ensures { AppendsText result out.old.items out.new.items (field word.now n) }
 {
     put_text(out, word)?;
     put_number(out, n)

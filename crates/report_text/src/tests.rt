@@ -1,0 +1,98 @@
+use crate::{
+    answer_line, hex_line, put_answer_line, put_columns_line, put_hex_line, put_number,
+    put_sketchlets_line, put_text,
+};
+use lg_model::{Answer, Value};
+use sketchlet_wire::Packed;
+use std::test::Fail;
+
+#[test]
+fn lines_of_answers(rt: HostRuntime) -> Result<(), Fail> {
+    for (rows_known, bytes, delay, want) in [
+        (
+            2,
+            Value::AtMost(1500),
+            Value::AtMost(20),
+            b"flow 1 switch 1 epoch 0 rows 2 of 2 bytes 1500 delay 20\n".as_slice(),
+        ),
+        (
+            0,
+            Value::Unknown,
+            Value::Unknown,
+            b"flow 1 switch 1 epoch 0 rows 0 of 2 bytes unknown delay unknown\n".as_slice(),
+        ),
+        (
+            1,
+            Value::Saturated,
+            Value::AtMost(0),
+            b"flow 1 switch 1 epoch 0 rows 1 of 2 bytes saturated delay 0\n".as_slice(),
+        ),
+        (
+            2,
+            Value::AtMost(4294967294),
+            Value::Saturated,
+            b"flow 1 switch 1 epoch 0 rows 2 of 2 bytes 4294967294 delay saturated\n".as_slice(),
+        ),
+    ] {
+        let answer = Answer {
+            rows_known,
+            bytes,
+            delay,
+        };
+        let line = answer_line(rt.alloc(), 1, 1, 0, 2, &answer)?;
+        assert_eq!(rt; line.as_slice(), want);
+    }
+    Ok(())
+}
+
+#[test]
+fn a_report_of_one_answer(rt: HostRuntime) -> Result<(), Fail> {
+    let answer = Answer {
+        rows_known: 8,
+        bytes: Value::AtMost(10),
+        delay: Value::AtMost(65534),
+    };
+    let mut out = Vec::new(rt.alloc());
+    put_answer_line(&mut out, 65535, 65534, 4294967295, 8, &answer)?;
+    put_columns_line(&mut out, 262144)?;
+    assert_eq!(rt;
+        out.as_slice(),
+        b"flow 65535 switch 65534 epoch 4294967295 rows 8 of 8 bytes 10 delay 65534\ncolumns 262144\n".as_slice()
+    );
+    Ok(())
+}
+
+// The 26 bytes of switch 1, epoch 0, index 0, with two rows of the sum 1500 and the maximum 20.
+const WORKED: [u8; 26] =
+    *b"\x4c\x47\x01\x02\x00\x01\x00\x01\x00\x00\x00\x00\x00\x00\x00\x00\x05\xdc\x00\x14\x00\x00\x05\xdc\x00\x14";
+
+#[test]
+fn a_capture_of_one_sketchlet(rt: HostRuntime) -> Result<(), Fail> {
+    let mut bytes = [255; 62];
+    bytes[..26].copy_from_slice(&WORKED);
+    let packed = Packed { len: 26, bytes };
+    let want = b"host 1 4c47010200010001000000000000000005dc0014000005dc0014\n".as_slice();
+    let line = hex_line(rt.alloc(), 1, &packed)?;
+    assert_eq!(rt; line.as_slice(), want);
+
+    let mut out = Vec::new(rt.alloc());
+    put_hex_line(&mut out, 1, &packed)?;
+    assert_eq!(rt; out.as_slice(), want);
+    put_sketchlets_line(&mut out, 1)?;
+    assert_eq!(rt; &out[60..], b"sketchlets 1\n".as_slice());
+    Ok(())
+}
+
+#[test]
+fn text_and_numbers(rt: HostRuntime) -> Result<(), Fail> {
+    let mut out = Vec::new(rt.alloc());
+    put_text(&mut out, b"damaged at ")?;
+    put_number(&mut out, 18446744073709551615)?;
+    put_text(&mut out, b" ")?;
+    put_number(&mut out, 0)?;
+    assert_eq!(rt;
+        out.as_slice(),
+        b"damaged at 18446744073709551615 0".as_slice()
+    );
+    Ok(())
+}
