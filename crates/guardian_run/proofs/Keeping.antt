@@ -103,3 +103,7 @@ lines_more w n d old new h before put =
     ∙ ap (flat_map (host_lines w)) (enumerate_from-append 0 (take n w.hosts) (x ∷ []) ∙ ap (λ (k : ℕ). enumerate_from 0 (take n w.hosts) ++ (k, x) ∷ []) (zero-add (length (take n w.hosts)) ∙ front))
     ∙ flat_map-append (host_lines w) (enumerate_from 0 (take n w.hosts)) ((n, x) ∷ [])
     ∙ ap (λ xs. flat_map (host_lines w) (enumerate_from 0 (take n w.hosts)) ++ xs) (append-nil (host_lines w (n, x))))
+
+-- the host that the code reads
+pub host_known : (w : Scenario) (n : ℕ) (hs : List HostLine) (x : HostLine) → hs ≡ w.hosts → x ≡ slice_index_or hs n x → slice_index_or w.hosts n x ≡ x
+host_known w n hs x same is = ap (λ (ys : List HostLine). slice_index_or ys n x) (sym same) ∙ sym is
