@@ -5,3 +5,5 @@ pub mod TookLemmas
 pub mod DecidingLemmas
 pub mod WorkedTexts
 pub mod PrintLemmas
+pub mod WordsAgain
+pub mod NamesAgain

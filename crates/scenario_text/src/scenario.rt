@@ -24,12 +24,13 @@ pub struct Scenario {
 
 impl Model for Scenario {
     ghost use Rattle.lg_model.specs.Scenario as model;
+    ghost use Rattle.scenario_text.specs.Whole as whole;
 
     ghost Value = { model.Scenario };
 
     ghost view = { λ s. record { shape = s.shape; pick = s.pick; hosts = s.hosts.items; switches = s.switches.items; flows = s.flows.items; steps = s.steps.items; asks = s.asks.items } };
 
-    ghost invariant = { λ s. model.IsScenario (record { shape = s.shape; pick = s.pick; hosts = s.hosts.items; switches = s.switches.items; flows = s.flows.items; steps = s.steps.items; asks = s.asks.items }) };
+    ghost invariant = { λ s. whole.IsWhole (record { shape = s.shape; pick = s.pick; hosts = s.hosts.items; switches = s.switches.items; flows = s.flows.items; steps = s.steps.items; asks = s.asks.items }) };
 }
 
 impl Scenario {
