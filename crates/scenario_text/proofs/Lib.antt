@@ -7,3 +7,5 @@ pub mod WorkedTexts
 pub mod PrintLemmas
 pub mod WordsAgain
 pub mod NamesAgain
+pub mod LinesAgain
+pub mod TextAgain
