@@ -1,6 +1,7 @@
 //! Scenarios.
 ghost use Rattle.std.specs.Prelude.{◌≡◌};
 ghost use Rattle.lg_model.specs.Scenario as model;
+ghost use Rattle.scenario_text.specs.Whole.{IsWhole};
 ghost use Rattle.scenario_lines.specs.Draft.{view, scenario_of, Fits};
 
 use lg_model::{Ask, Flow, HostLine, Pick, Step};
@@ -69,6 +70,7 @@ impl Scenario {
     pub fn shape(&self) -> Shape
         ensures value { result ≡ self.now.shape }
         ensures fits { model.IsScenario self.now }
+        ensures whole { IsWhole self.now }
     {
         self.shape
     }
