@@ -1,6 +1,6 @@
 -- What one line adds leaves parts that fit each other.
 use Rattle.std.proofs.Common.{◌≡◌, ℕ, suc, zero, ◌+◌, ◌<◌, ◌≤◌, List, [], ◌∷◌, ◌++◌, length, length-append, get_or, length-set, refl, ap, ◌∙◌, arith, true, false, cond, Bool, ◌⊎◌, inl, inr}
-use Rattle.std.specs.Prelude.{slice_get, Option, Some, None, All, ◌&&◌, nat_lt}
+use Rattle.std.specs.Prelude.{slice_get, Option, Some, None, All, ◌&&◌, ◌==◌, nat_lt}
 use Rattle.std.proofs.lemmas.Bool.{cases_lt}
 use Rattle.std.proofs.lemmas.List.{get_or_append_left}
 use Rattle.std.proofs.lemmas.List.Elements.{All-push}
@@ -17,8 +17,12 @@ use Rattle.scenario_lines.specs.declared.section.Section.{Section}
 use Rattle.scenario_lines.specs.declared.section.Section.TheVariants.{First, Second, Third, Declarations, Steps, Done}
 use Rattle.scenario_lines.specs.declared.section.Keyword.TheVariants as words
 use Rattle.scenario_lines.specs.Sections.{has_steps, has_place, is_first}
-use Rattle.scenario_lines.specs.Counts.{ends_of}
-use Rattle.scenario_lines.specs.Draft.{State, IsDraft}
+use Rattle.std.specs.List.{list_any}
+use Rattle.scenario_lines.specs.Counts.{names_of, ends_of}
+use Rattle.scenario_lines.specs.Index.{IsIndexed}
+use Rattle.scenario_lines.specs.Readable.{IsHash, IsPick, IsHostLine, IsFlowLine, IsStepLine, IsAskLine, IsReadable}
+use Rattle.scenario_lines.specs.Draft.{State, IsDraft, scenario_of}
+use Rattle.scenario_lines.proofs.ReadableLemmas.{shaped_lines, picked_lines, host_lines, linked_lines, switch_lines, flow_lines, step_lines, ask_lines}
 use Rattle.scenario_lines.specs.Fields.{all_room}
 use Rattle.scenario_lines.specs.Line.{linked, linked_at}
 use Rattle.scenario_lines.proofs.CountLemmas.{ends_more, packets_more}
@@ -59,8 +63,8 @@ before_switch Done is = absurd cc
 
 -- ---- declarations
 
-pub shaped : (s : State) (shape : Shape) (x : Section) → IsDraft s → has_steps s.section ≡ false → IsShape shape.rows shape.width → IsDraft (record s { section = x; shape = shape })
-shaped s shape x ok early fits = record {
+pub shaped : (s : State) (shape : Shape) (x : Section) → IsDraft s → has_steps s.section ≡ false → IsShape shape.rows shape.width → IsHash shape.hash → IsDraft (record s { section = x; shape = shape })
+shaped s shape x ok early fits hash = record {
   scenario = record {
     shape = fits;
     few_hosts = ok.scenario.few_hosts;
@@ -71,11 +75,12 @@ shaped s shape x ok early fits = record {
     few_packets = ok.scenario.few_packets;
     few_ends = ok.scenario.few_ends;
   };
+  lines = shaped_lines (scenario_of s) shape ok.lines hash;
   no_steps = λ _. ok.no_steps early;
 }
 
-pub picked : (s : State) (p : Pick) (x : Section) → IsDraft s → has_steps s.section ≡ false → IsDraft (record s { section = x; pick = p })
-picked s p x ok early = record {
+pub picked : (s : State) (p : Pick) (x : Section) → IsDraft s → has_steps s.section ≡ false → IsPick p → IsDraft (record s { section = x; pick = p })
+picked s p x ok early pick = record {
   scenario = record {
     shape = ok.scenario.shape;
     few_hosts = ok.scenario.few_hosts;
@@ -86,11 +91,12 @@ picked s p x ok early = record {
     few_packets = ok.scenario.few_packets;
     few_ends = ok.scenario.few_ends;
   };
+  lines = picked_lines (scenario_of s) p ok.lines pick;
   no_steps = λ _. ok.no_steps early;
 }
 
-pub hosts_kept : (s : State) (hosts : List HostLine) → IsDraft s → length s.hosts ≤ length hosts → length hosts ≤ 64 → IsDraft (record s { hosts = hosts })
-hosts_kept s hosts ok more few = record {
+pub hosts_kept : (s : State) (hosts : List HostLine) → IsDraft s → length s.hosts ≤ length hosts → length hosts ≤ 64 → IsReadable (record (scenario_of s) { hosts = hosts }) → IsDraft (record s { hosts = hosts })
+hosts_kept s hosts ok more few lines = record {
   scenario = record {
     shape = ok.scenario.shape;
     few_hosts = few;
@@ -101,28 +107,29 @@ hosts_kept s hosts ok more few = record {
     few_packets = ok.scenario.few_packets;
     few_ends = ok.scenario.few_ends;
   };
+  lines = lines;
   no_steps = ok.no_steps;
 }
 
-pub host_more : (s : State) (hosts : List HostLine) (h : HostLine) → IsDraft s → hosts ≡ s.hosts ++ h ∷ [] → length s.hosts < 64 → IsDraft (record s { hosts = hosts })
-host_more s hosts h ok is few =
+pub host_more : (s : State) (hosts : List HostLine) (h : HostLine) → IsDraft s → hosts ≡ s.hosts ++ h ∷ [] → length s.hosts < 64 → IsHostLine h → list_any (λ g. g.name == h.name) s.hosts ≡ false → IsDraft (record s { hosts = hosts })
+host_more s hosts h ok is few line fresh =
     let len : length hosts ≡ length s.hosts + 1 = ap length is ∙ length-append s.hosts (h ∷ []) in
-    hosts_kept s hosts ok (omega (arith, len)) (omega (arith, len))
+    hosts_kept s hosts ok (omega (arith, len)) (omega (arith, len)) (host_lines (scenario_of s) hosts h ok.lines is line fresh)
 
 linked_len : (hosts : List HostLine) (at : ℕ) (ls : List Letter) (o : Option HostLine) → length (linked_at hosts at ls o) ≡ length hosts
 linked_len hosts at ls None = refl
 linked_len hosts at ls (Some h) = length-set hosts at (record h { letters = ls })
 
-pub host_linked : (s : State) (hosts : List HostLine) (at : ℕ) (ls : List Letter) → IsDraft s → hosts ≡ linked s.hosts at ls → IsDraft (record s { hosts = hosts })
-host_linked s hosts at ls ok is =
+pub host_linked : (s : State) (hosts : List HostLine) (at : ℕ) (ls : List Letter) → IsDraft s → hosts ≡ linked s.hosts at ls → length ls ≤ 4096 → IsDraft (record s { hosts = hosts })
+host_linked s hosts at ls ok is few =
     let len : length hosts ≡ length s.hosts = ap length is ∙ linked_len s.hosts at ls (slice_get s.hosts at) in
-    hosts_kept s hosts ok (omega (arith, len)) (omega (arith, len, ok.scenario.few_hosts))
+    hosts_kept s hosts ok (omega (arith, len)) (omega (arith, len, ok.scenario.few_hosts)) (linked_lines (scenario_of s) hosts at ls ok.lines is few)
 
 no_end : (switches steps : List ℕ) (ts : List Step) (i : ℕ) → ts ≡ [] → ends_of i ts ≤ 65535
 no_end switches steps ts i is = rw is (omega arith)
 
-pub switch_more : (s : State) (switches : List ℕ) (n : ℕ) → IsDraft s → has_steps s.section ≡ false → switches ≡ s.switches ++ n ∷ [] → length s.switches < 64 → IsDraft (record s { switches = switches })
-switch_more s switches n ok early is few =
+pub switch_more : (s : State) (switches : List ℕ) (n : ℕ) → IsDraft s → has_steps s.section ≡ false → switches ≡ s.switches ++ n ∷ [] → length s.switches < 64 → n < 65536 → list_any (λ m. m == n) s.switches ≡ false → IsDraft (record s { switches = switches })
+switch_more s switches n ok early is few small fresh =
     let len : length switches ≡ length s.switches + 1 = ap length is ∙ length-append s.switches (n ∷ []) in
     let none = ok.no_steps early in
     record {
@@ -136,6 +143,7 @@ switch_more s switches n ok early is few =
         few_packets = ok.scenario.few_packets;
         few_ends = λ i lt. rw none (omega arith);
       };
+      lines = switch_lines (scenario_of s) switches n ok.lines is small fresh;
       no_steps = ok.no_steps;
     }
 
@@ -153,8 +161,8 @@ step_kept n flows now f steps.Release is ok = tt
 pub flow_fits : (hosts switches : ℕ) (f : Flow) (hops : List ℕ) → f.path ≡ hops → f.host_at < hosts → All (λ at. at < switches) hops → 1 ≤ length hops → length hops ≤ 16 → IsFlow hosts switches f
 flow_fits hosts switches f hops is host bound some few = record { host = host; path = rw is bound; some_hops = rw is some; few_hops = rw is few }
 
-pub flow_more : (s : State) (flows : List Flow) (f : Flow) → IsDraft s → IsFlow (length s.hosts) (length s.switches) f → flows ≡ s.flows ++ f ∷ [] → IsDraft (record s { flows = flows })
-flow_more s flows f ok fits is = record {
+pub flow_more : (s : State) (flows : List Flow) (f : Flow) (at : List ℕ) → IsDraft s → IsFlow (length s.hosts) (length s.switches) f → flows ≡ s.flows ++ f ∷ [] → IsFlowLine f → length s.flows < 4096 → IsIndexed (names_of flows) at → IsDraft (record s { flows = flows })
+flow_more s flows f at ok fits is line few table = record {
   scenario = record {
     shape = ok.scenario.shape;
     few_hosts = ok.scenario.few_hosts;
@@ -165,14 +173,15 @@ flow_more s flows f ok fits is = record {
     few_packets = ok.scenario.few_packets;
     few_ends = ok.scenario.few_ends;
   };
+  lines = flow_lines (scenario_of s) flows f at ok.lines is line few table;
   no_steps = ok.no_steps;
 }
 
 -- ---- steps and asks
 
 pub step_more : (s : State) (ts : List Step) (t : Step) → IsDraft s → IsStep (length s.switches) s.flows t → ts ≡ s.steps ++ t ∷ [] → packet_count s.steps + burst_of t ≤ 1000000
-    → ((i : ℕ) → i < length s.switches → ends_of i s.steps + cond (is_end_of i t) 1 0 ≤ 65535) → IsDraft (record s { section = Steps; steps = ts })
-step_more s ts t ok fits is packets ends = record {
+    → ((i : ℕ) → i < length s.switches → ends_of i s.steps + cond (is_end_of i t) 1 0 ≤ 65535) → IsStepLine t → IsDraft (record s { section = Steps; steps = ts })
+step_more s ts t ok fits is packets ends line = record {
   scenario = record {
     shape = ok.scenario.shape;
     few_hosts = ok.scenario.few_hosts;
@@ -183,11 +192,12 @@ step_more s ts t ok fits is packets ends = record {
     few_packets = rw is (omega (arith, packets, packets_more s.steps t));
     few_ends = λ i lt. rw is (omega (arith, ends i lt, ends_more i s.steps t));
   };
+  lines = step_lines (scenario_of s) ts t ok.lines is line;
   no_steps = λ e. absurd cc;
 }
 
-pub ask_more : (s : State) (asks : List Ask) (q : Ask) → IsDraft s → IsAsk s.flows q → asks ≡ s.asks ++ q ∷ [] → IsDraft (record s { section = Steps; asks = asks })
-ask_more s asks q ok fits is = record {
+pub ask_more : (s : State) (asks : List Ask) (q : Ask) → IsDraft s → IsAsk s.flows q → asks ≡ s.asks ++ q ∷ [] → IsAskLine s.switches q → length s.asks < 10000 → IsDraft (record s { section = Steps; asks = asks })
+ask_more s asks q ok fits is line few = record {
   scenario = record {
     shape = ok.scenario.shape;
     few_hosts = ok.scenario.few_hosts;
@@ -198,6 +208,7 @@ ask_more s asks q ok fits is = record {
     few_packets = ok.scenario.few_packets;
     few_ends = ok.scenario.few_ends;
   };
+  lines = ask_lines (scenario_of s) asks q ok.lines is line few;
   no_steps = λ e. absurd cc;
 }
 

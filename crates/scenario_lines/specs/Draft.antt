@@ -12,6 +12,7 @@ use Rattle.lg_model.specs.Scenario.{Scenario, IsScenario}
 use Rattle.scenario_lines.specs.declared.section.Section.{Section}
 use Rattle.scenario_lines.specs.declared.section.Section.TheVariants.{First}
 use Rattle.scenario_lines.specs.Sections.{has_steps}
+use Rattle.scenario_lines.specs.Readable.{IsReadable}
 use Rattle.scenario_lines.specs.declared.draft.Draft.{Draft}
 
 -- The section that the text is in, and the parts that were said so far.
@@ -38,9 +39,11 @@ start = record { section = First; shape = record { rows = 1; width = 1; hash = P
 abbrev pub view : Draft → State
 view d = record { section = d.section; shape = record { rows = d.rows; width = d.width; hash = d.hash }; pick = d.pick; hosts = d.hosts.items; switches = d.switches.items; flows = d.flows.items; steps = d.steps.items; asks = d.asks.items }
 
--- The parts so far fit each other, and none passes its limit; and no step comes before its section.
+-- The parts so far fit each other, none passes its limit, and their lines can be read again; and no step comes before
+-- its section.
 pub record IsDraft (s : State) : Type 0 where
   pub scenario : IsScenario (scenario_of s)
+  pub lines : IsReadable (scenario_of s)
   pub no_steps : has_steps s.section ≡ false → s.steps ≡ []
 
 abbrev pub Fits : Draft → Type 0

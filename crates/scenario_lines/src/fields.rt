@@ -4,6 +4,7 @@ ghost use Rattle.std.specs.Fmt.{decimal};
 ghost use Rattle.std.specs.Option.{option_copied};
 ghost use Rattle.flow_key.specs.Words.{words_left};
 ghost use Rattle.scenario_lines.specs.Spelling.{size, hash_words, pick_words};
+ghost use Rattle.scenario_lines.specs.Readable.{IsHash, IsPick};
 ghost use Rattle.scenario_lines.specs.Fields.{Gives, number, word, ended, room, room_to, hash, pick};
 
 use crate::fault::LineFault;
@@ -104,6 +105,7 @@ pub(crate) fn room_up_to(most: u32, held: u32) -> Result<(), LineFault>
 // `ports`, or `seed N`.
 #[tactic(auto, unfolding(crate::specs::Fields::hash))]
 pub(crate) fn hash_field(text: Option<&[u8]>) -> Result<(Hash, Option<&[u8]>), LineFault>
+    ensures bound { IfOk result (λ x. IsHash x.0) }
     ensures taken { IfOk result (λ x. size (words_left 32 (option_copied text.entry)) ≡ size (hash_words x.0) + size (words_left 32 (option_copied x.1))) }
     ensures gives { Gives (λ x. (x.0, words_left 32 (option_copied x.1))) result (hash (words_left 32 (option_copied text.entry))) }
 {
@@ -124,6 +126,7 @@ pub(crate) fn hash_field(text: Option<&[u8]>) -> Result<(Hash, Option<&[u8]>), L
 // `turns`, or `chance N`.
 #[tactic(auto, unfolding(crate::specs::Fields::pick))]
 pub(crate) fn pick_field(text: Option<&[u8]>) -> Result<(Pick, Option<&[u8]>), LineFault>
+    ensures bound { IfOk result (λ x. IsPick x.0) }
     ensures taken { IfOk result (λ x. size (words_left 32 (option_copied text.entry)) ≡ size (pick_words x.0) + size (words_left 32 (option_copied x.1))) }
     ensures gives { Gives (λ x. (x.0, words_left 32 (option_copied x.1))) result (pick (words_left 32 (option_copied text.entry))) }
 {

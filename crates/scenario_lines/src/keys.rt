@@ -3,7 +3,7 @@
 ghost use Rattle.std.specs.Prelude.{◌≡◌, ◌≤◌, ◌+◌, length, IfOk};
 ghost use Rattle.std.specs.Fmt.{decimal};
 ghost use Rattle.std.specs.Option.{option_copied};
-ghost use Rattle.flow_key.specs.KeyText.{dotted};
+ghost use Rattle.flow_key.specs.KeyText.{dotted, IsAddress, Fits};
 ghost use Rattle.flow_key.specs.Words.{words_left};
 ghost use Rattle.scenario_lines.specs.Spelling.{size, key_parts};
 ghost use Rattle.scenario_lines.specs.Fields.{Gives, key_address, key_number, key};
@@ -14,6 +14,7 @@ use flow_key::{FlowKey, words};
 
 #[tactic(auto, unfolding(crate::specs::Fields::key_address))]
 fn address_field(text: Option<&[u8]>) -> Result<([u8; 4], Option<&[u8]>), LineFault>
+    ensures bytes { IfOk result (λ x. IsAddress x.0) }
     ensures taken { IfOk result (λ x. size (words_left 32 (option_copied text.entry)) ≡ length (dotted x.0) + 1 + size (words_left 32 (option_copied x.1))) }
     ensures gives { Gives (λ x. (x.0, words_left 32 (option_copied x.1))) result (key_address (words_left 32 (option_copied text.entry))) }
 {
@@ -46,6 +47,7 @@ fn key_number_field(text: Option<&[u8]>, most: u64) -> Result<(u64, Option<&[u8]
 // The five words of a key.
 #[tactic(auto, unfolding(crate::specs::Fields::key))]
 pub(crate) fn key_field(text: Option<&[u8]>) -> Result<(FlowKey, Option<&[u8]>), LineFault>
+    ensures fits { IfOk result (λ x. Fits x.0) }
     ensures taken { IfOk result (λ x. size (words_left 32 (option_copied text.entry)) ≡ size (key_parts x.0 (words_left 32 (option_copied x.1)))) }
     ensures gives { Gives (λ x. (x.0, words_left 32 (option_copied x.1))) result (key (words_left 32 (option_copied text.entry))) }
 {

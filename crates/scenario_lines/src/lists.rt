@@ -1,10 +1,11 @@
 //! Fields with several parts: paths, letters and delays.
-ghost use Rattle.std.specs.Prelude.{◌≡◌, ◌≤◌, ◌<◌, ◌+◌, ◌∷◌, [], All, Ok, length, map, IfOk, OnOk};
+ghost use Rattle.std.specs.Prelude.{◌≡◌, ◌≤◌, ◌<◌, ◌+◌, ◌∷◌, ◌==◌, [], All, Ok, false, length, map, IfOk, OnOk};
 ghost use Rattle.std.specs.Fmt.{decimal};
-ghost use Rattle.std.specs.List.{list_all};
+ghost use Rattle.std.specs.List.{list_all, list_any};
 ghost use Rattle.std.specs.Option.{option_copied};
 ghost use Rattle.flow_key.specs.Words.{words_left};
 ghost use Rattle.scenario_lines.specs.Spelling.{size};
+ghost use Rattle.scenario_lines.specs.Readable.{AreApart};
 ghost use Rattle.scenario_lines.specs.Fields.{Gives, number, hop, path, is_letter, letter_of, letters_word, delays};
 
 use crate::fault::LineFault;
@@ -32,6 +33,7 @@ fn next_hop(switches: &[u16], sofar: &[u16], word: &[u8]) -> Result<u16, LineFau
     ensures gives { Gives (λ x. x) result (hop switches.now sofar.now word.now) }
     ensures fits { OnOk result (length sofar.now < 16) }
     ensures bound { IfOk result (λ at. at < length switches.now) }
+    ensures fresh { IfOk result (λ at. list_any (λ m. m == at) sofar.now ≡ false) }
 {
     if sofar.len() == 16 {
         return Err(LineFault::Bad(Why::BadPath));
@@ -54,6 +56,7 @@ pub(crate) fn path_field(
     ensures some { IfOk result (λ v. 1 ≤ length v.items) }
     ensures short { IfOk result (λ v. length v.items ≤ 16) }
     ensures bound { IfOk result (λ v. All (λ at. at < length switches.now) v.items) }
+    ensures once { IfOk result (λ v. AreApart v.items) }
 {
     let mut hops: Vec<u16> = Vec::new(alloc);
     let mut left = text;
@@ -113,7 +116,8 @@ pub(crate) fn letters_field(
     alloc: Global,
     text: Option<&[u8]>,
 ) -> Result<(Letters, Option<&[u8]>), LineFault>
-    ensures { Gives (λ x. (x.0, words_left 32 (option_copied x.1))) result (letters_word (words_left 32 (option_copied text.entry))) }
+    ensures few { IfOk result (λ x. length x.0 ≤ 4096) }
+    ensures gives { Gives (λ x. (x.0, words_left 32 (option_copied x.1))) result (letters_word (words_left 32 (option_copied text.entry))) }
 {
     let Some(text) = text else {
         return Err(LineFault::Bad(Why::WordCount));
@@ -139,8 +143,10 @@ pub(crate) fn delays_field<'a>(
     mut sofar: Vec<u32>,
     text: Option<&'a [u8]>,
 ) -> Result<(Vec<u32>, Option<&'a [u8]>), LineFault>
+    requires { All (λ d. d < 4294967296) sofar.items }
     ensures taken { IfOk result (λ x. size (map decimal x.0.items) + size (words_left 32 (option_copied x.1)) ≡ size (map decimal sofar.items) + size (words_left 32 (option_copied text.entry))) }
     ensures count { IfOk result (λ x. length x.0.items ≡ length sofar.items + length path.now) }
+    ensures small { IfOk result (λ x. All (λ d. d < 4294967296) x.0.items) }
     ensures gives { Gives (λ x. (x.0.items, words_left 32 (option_copied x.1))) result (delays path.now sofar.items (words_left 32 (option_copied text.entry))) }
 {
     match path {

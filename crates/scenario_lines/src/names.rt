@@ -1,5 +1,5 @@
 //! The names of hosts and switches, which are few, looked up by their positions.
-ghost use Rattle.std.specs.Prelude.{◌≡◌, ◌≤◌, ◌<◌, ◌==◌, length, IfOk, IfSome};
+ghost use Rattle.std.specs.Prelude.{◌≡◌, ◌≤◌, ◌<◌, ◌==◌, length, true, false, IfOk, IfSome, OnOk};
 ghost use Rattle.std.specs.List.{position, list_any};
 ghost use Rattle.scenario_lines.specs.Fields.{Gives, fresh, known, place, fresh_host, host_place};
 
@@ -10,7 +10,8 @@ use lg_model::HostLine;
 // The name is none of these.
 #[tactic(auto, unfolding(crate::specs::Fields::fresh))]
 pub(crate) fn fresh_name(names: &[u16], name: u16) -> Result<(), LineFault>
-    ensures { Gives (λ x. x) result (fresh names.now name) }
+    ensures gives { Gives (λ x. x) result (fresh names.now name) }
+    ensures fresh { OnOk result (list_any (λ m. m == name) names.now ≡ false) }
 {
     if names.contains(&name) {
         Err(LineFault::Bad(Why::Repeated))
@@ -22,7 +23,8 @@ pub(crate) fn fresh_name(names: &[u16], name: u16) -> Result<(), LineFault>
 // The name is one of these.
 #[tactic(auto, unfolding(crate::specs::Fields::known))]
 pub(crate) fn known_name(names: &[u16], name: u16) -> Result<(), LineFault>
-    ensures { Gives (λ x. x) result (known names.now name) }
+    ensures gives { Gives (λ x. x) result (known names.now name) }
+    ensures known { OnOk result (list_any (λ m. m == name) names.now ≡ true) }
 {
     if names.contains(&name) {
         Ok(())
@@ -60,7 +62,8 @@ fn has_host(hosts: &[HostLine], name: u16) -> bool
 // No host has the name.
 #[tactic(auto, unfolding(crate::specs::Fields::fresh_host))]
 pub(crate) fn new_host(hosts: &[HostLine], name: u16) -> Result<(), LineFault>
-    ensures { Gives (λ x. x) result (fresh_host hosts.now name) }
+    ensures gives { Gives (λ x. x) result (fresh_host hosts.now name) }
+    ensures fresh { OnOk result (list_any (λ h. h.name == name) hosts.now ≡ false) }
 {
     if has_host(hosts, name) {
         Err(LineFault::Bad(Why::Repeated))

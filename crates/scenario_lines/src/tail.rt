@@ -16,6 +16,7 @@ use lg_model::Fate;
 // `burst N`, or nothing, which is 1.
 #[tactic(auto, unfolding(crate::specs::Fields::burst))]
 pub(crate) fn burst_field(text: Option<&[u8]>) -> Result<(u32, Option<&[u8]>), LineFault>
+    ensures some { IfOk result (λ x. 1 ≤ x.0) }
     ensures bound { IfOk result (λ x. x.0 ≤ 1000000) }
     ensures taken { IfOk result (λ x. size (burst_words x.0) + size (words_left 32 (option_copied x.1)) ≤ size (words_left 32 (option_copied text.entry))) }
     ensures gives { Gives (λ x. (x.0, words_left 32 (option_copied x.1))) result (burst (words_left 32 (option_copied text.entry))) }

@@ -5,3 +5,7 @@ pub mod TookLemmas
 pub mod DecidingLemmas
 pub mod WorkedTexts
 pub mod PrintLemmas
+pub mod WordsAgain
+pub mod NamesAgain
+pub mod LinesAgain
+pub mod TextAgain

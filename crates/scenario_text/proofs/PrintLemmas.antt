@@ -1,9 +1,13 @@
 -- A line written in two parts.
-use Rattle.std.proofs.Common.{◌≡◌, ◌<◌, ℕ, true, All, List, [], ◌∷◌, ◌++◌, refl, ◌∙◌, append_assoc, arith}
+use Rattle.std.proofs.Common.{◌≡◌, ◌<◌, ℕ, true, All, List, [], ◌∷◌, ◌++◌, refl, ap, ◌∙◌, append_assoc, arith}
 use Rattle.std.specs.Prelude.{nat_lt}
 use Rattle.std.specs.List.{list_all}
 use Rattle.std.proofs.lemmas.List.Sums.{list_all-from_AllPass}
-use Rattle.scenario_lines.specs.Spelling.{Words, spaced, joined, line_text}
+use Rattle.lg_model.specs.declared.scenario.Pick.{Pick}
+use Rattle.lg_model.specs.Placing.{Shape}
+use Rattle.lg_model.specs.Scenario.{Scenario}
+use Rattle.scenario_lines.specs.Spelling.{Words, spaced, joined, line_text, guardian_words, shape_words, pick_line_words}
+use Rattle.scenario_text.specs.Printed.{first_text, declared_text, happening_text, text_of}
 
 spaced_append : (ws vs : Words) → spaced (ws ++ vs) ≡ spaced ws ++ spaced vs
 spaced_append [] vs = refl
@@ -25,3 +29,11 @@ under a b lt = grind arith
 
 pub path_within : (n : ℕ) (path : List ℕ) → All (λ s. s < n) path → list_all (λ at. nat_lt at n) path ≡ true
 path_within n path within = list_all-from_AllPass (λ at. nat_lt at n) path (λ i d lt. under _ n (within i d lt))
+
+-- ---- the whole text
+
+pub in_three : (w : Scenario) (none one two three : List ℕ) (shape : Shape) (pick : Pick) → none ≡ [] → shape ≡ w.shape → pick ≡ w.pick → one ≡ none ++ (line_text guardian_words ++ (line_text (shape_words shape) ++ line_text (pick_line_words pick))) → two ≡ one ++ declared_text w → three ≡ two ++ happening_text w → three ≡ text_of w
+in_three w none one two three shape pick empty is_shape is_pick first second third =
+    let a : one ≡ first_text w = first ∙ rw (empty, is_shape, is_pick) refl in
+    let b : two ≡ first_text w ++ declared_text w = second ∙ ap (λ (xs : List ℕ). xs ++ declared_text w) a in
+    third ∙ ap (λ (xs : List ℕ). xs ++ happening_text w) b ∙ append_assoc (first_text w) (declared_text w) (happening_text w)

@@ -3,3 +3,4 @@ pub mod Text
 pub mod Reading
 pub mod Worked
 pub mod Printed
+pub mod Whole

@@ -1,5 +1,8 @@
 //! Laws over the definitions, each on a function with an empty body.
-ghost use Rattle.std.specs.Prelude.{◌≡◌, ℕ, List};
+ghost use Rattle.std.specs.Prelude.{◌≡◌, ◌≤◌, ℕ, List, Ok, length};
+ghost use Rattle.lg_model.specs.Scenario.{Scenario};
+ghost use Rattle.scenario_text.specs.Printed.{text_of};
+ghost use Rattle.scenario_text.specs.Whole.{IsWhole};
 ghost use Rattle.scenario_text.specs.Text.{reading, deciding};
 ghost use Rattle.scenario_text.specs.Worked.{WorkedTexts};
 
@@ -11,4 +14,9 @@ pub fn prefix_decides()
 /// The reading, worked out by computation at texts with known answers.
 pub fn worked_texts()
     ensures { WorkedTexts }
+{}
+
+/// What a scenario is printed as is read as that scenario.
+pub fn printed_is_read()
+    ensures { (w : Scenario) → IsWhole w → length (text_of w) ≤ 16777216 → reading (text_of w) ≡ Ok w }
 {}

@@ -1,20 +1,24 @@
 //! The text of a scenario.
-ghost use Rattle.std.specs.Prelude.{◌≡◌, ◌++◌, OnOk, IfOk};
-ghost use Rattle.scenario_text.specs.Printed.{first_text, declared_text, happening_text, text_of};
+ghost use Rattle.std.specs.Prelude.{◌≡◌, ◌≤◌, ◌++◌, length, OnOk, IfOk, Ok};
+ghost use Rattle.scenario_lines.specs.Spelling.{line_text, guardian_words, shape_words, pick_line_words};
+ghost use Rattle.scenario_text.specs.Text.{reading};
+ghost use Rattle.scenario_text.specs.Printed.{declared_text, happening_text, text_of};
 
 use crate::put_declared::{put_flows, put_hosts, put_links, put_switches};
 use crate::put_first::{put_guardian, put_pick, put_shape};
 use crate::put_steps::{put_asks, put_done, put_steps};
 use crate::scenario::Scenario;
 use lg_base::Memory;
+use lg_model::Pick;
+use row_hash::Shape;
 use std::alloc::{AllocError, Global};
 
-fn put_first_lines(out: &mut Vec<u8>, scenario: &Scenario) -> Result<(), AllocError>
-    ensures { OnOk result (out.new.items ≡ out.old.items ++ first_text scenario.now) }
+fn put_first_lines(out: &mut Vec<u8>, shape: Shape, pick: &Pick) -> Result<(), AllocError>
+    ensures { OnOk result (out.new.items ≡ out.old.items ++ (line_text guardian_words ++ (line_text (shape_words shape) ++ line_text (pick_line_words pick.now)))) }
 {
     put_guardian(out)?;
-    put_shape(out, scenario.shape())?;
-    put_pick(out, scenario.pick())
+    put_shape(out, shape)?;
+    put_pick(out, pick)
 }
 
 fn put_declarations(out: &mut Vec<u8>, scenario: &Scenario) -> Result<(), AllocError>
@@ -41,12 +45,15 @@ fn put_happenings(out: &mut Vec<u8>, scenario: &Scenario) -> Result<(), AllocErr
 /// and the links of hosts that have letters, each in the order of the scenario; the steps; the asks; and `done`. Every
 /// line ends with 0A, and `burst 1` is left out.
 ///
+/// A text of at most 16,777,216 bytes is read as the same scenario.
+///
 /// `Memory` where no memory was found.
 pub fn print(alloc: Global, scenario: &Scenario) -> Result<Vec<u8>, Memory>
     ensures text { IfOk result (λ text. text.items ≡ text_of scenario.now) }
+    ensures again { IfOk result (λ text. length text.items ≤ 16777216 → reading text.items ≡ Ok scenario.now) }
 {
     let mut out = Vec::new(alloc);
-    put_first_lines(&mut out, scenario)?;
+    put_first_lines(&mut out, scenario.shape(), scenario.pick())?;
     put_declarations(&mut out, scenario)?;
     put_happenings(&mut out, scenario)?;
     Ok(out)

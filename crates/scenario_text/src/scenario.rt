@@ -1,6 +1,7 @@
 //! Scenarios.
 ghost use Rattle.std.specs.Prelude.{◌≡◌};
 ghost use Rattle.lg_model.specs.Scenario as model;
+ghost use Rattle.scenario_text.specs.Whole.{IsWhole};
 ghost use Rattle.scenario_lines.specs.Draft.{view, scenario_of, Fits};
 
 use lg_model::{Ask, Flow, HostLine, Pick, Step};
@@ -24,12 +25,13 @@ pub struct Scenario {
 
 impl Model for Scenario {
     ghost use Rattle.lg_model.specs.Scenario as model;
+    ghost use Rattle.scenario_text.specs.Whole as whole;
 
     ghost Value = { model.Scenario };
 
     ghost view = { λ s. record { shape = s.shape; pick = s.pick; hosts = s.hosts.items; switches = s.switches.items; flows = s.flows.items; steps = s.steps.items; asks = s.asks.items } };
 
-    ghost invariant = { λ s. model.IsScenario (record { shape = s.shape; pick = s.pick; hosts = s.hosts.items; switches = s.switches.items; flows = s.flows.items; steps = s.steps.items; asks = s.asks.items }) };
+    ghost invariant = { λ s. whole.IsWhole (record { shape = s.shape; pick = s.pick; hosts = s.hosts.items; switches = s.switches.items; flows = s.flows.items; steps = s.steps.items; asks = s.asks.items }) };
 }
 
 impl Scenario {
@@ -68,6 +70,7 @@ impl Scenario {
     pub fn shape(&self) -> Shape
         ensures value { result ≡ self.now.shape }
         ensures fits { model.IsScenario self.now }
+        ensures whole { IsWhole self.now }
     {
         self.shape
     }

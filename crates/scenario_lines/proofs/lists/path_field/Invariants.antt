@@ -1,6 +1,7 @@
 use Rattle.std.proofs.Common.{◌≡◌, ◌≤◌, ◌<◌, [], length, All}
 use Rattle.std.specs.Option.{option_copied}
 use Rattle.flow_key.specs.Words.{words_left}
+use Rattle.scenario_lines.specs.Readable.{AreApart}
 use Rattle.scenario_lines.specs.Fields.{path}
 use Rattle.scenario_lines.proofs.lists.path_field.Given as goal
 
@@ -9,6 +10,7 @@ invariant-loop-left l = record {
   same : path l.switches l.hops.items (words_left 32 (option_copied l.left)) ≡ path l.switches [] (words_left 32 (option_copied l.fn.text));
   short : length l.hops.items ≤ 16;
   bound : All (λ at. at < length l.switches) l.hops.items;
+  once : AreApart l.hops.items;
 }
 
 abbrev pub decreases-loop-left : goal.decreases-loop-left

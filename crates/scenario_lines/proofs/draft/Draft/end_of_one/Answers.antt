@@ -19,4 +19,4 @@ pub returns-clause-fits : goal.returns-clause-fits
 returns-clause-fits c =
     let at : c.in_ok-switch_at.switch_at < length c.args.self.now.switches.items = omega (arith, c.in_ok-switch_at.ensures.bound, ap length c.deref.ensures.value) in
     let room : ends_of c.in_ok-switch_at.switch_at c.args.self.now.steps.items < 65535 = omega (arith, c.in_ok-room_for.ensures.fits, c.ends_at.ensures) in
-    step_more (view c.args.self.now) c.push.new.self.items (End c.in_ok-switch_at.switch_at) c.requires at c.in_ok-push.ensures.items (omega (arith, c.requires.scenario.few_packets)) (λ i lt. end_fits (view c.args.self.now) c.in_ok-switch_at.switch_at i c.requires room lt)
+    step_more (view c.args.self.now) c.push.new.self.items (End c.in_ok-switch_at.switch_at) c.requires at c.in_ok-push.ensures.items (omega (arith, c.requires.scenario.few_packets)) (λ i lt. end_fits (view c.args.self.now) c.in_ok-switch_at.switch_at i c.requires room lt) tt

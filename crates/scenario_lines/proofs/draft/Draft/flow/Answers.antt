@@ -1,5 +1,6 @@
 use Rattle.std.proofs.Common.{◌<◌, arith, length, ap}
 use Rattle.lg_model.specs.declared.scenario.Flow.{Flow}
+use Rattle.scenario_lines.specs.Readable.{IsFlowLine}
 use Rattle.scenario_lines.specs.Draft.{view}
 use Rattle.scenario_lines.proofs.ScenarioLemmas.{flow_fits, flow_more}
 use Rattle.scenario_lines.proofs.draft.Draft.flow.Goals as goal
@@ -10,4 +11,5 @@ returns-clause-fits c =
     let at : c.in_ok-host_at.host_at < length c.args.self.now.hosts.items = omega (arith, c.in_ok-host_at.ensures.bound, ap length c.deref.ensures.value) in
     let hops = rw c.deref-2.ensures.value at c.in_ok-hops.ensures.bound in
     let fits = flow_fits (length c.args.self.now.hosts.items) (length c.args.self.now.switches.items) flow c.in_ok-hops.hops.items c.new-path.ensures at hops c.in_ok-hops.ensures.some c.in_ok-hops.ensures.short in
-    flow_more (view c.args.self.now) c.put_flow.new.flows.items flow c.requires fits c.in_ok-put_flow.ensures.added
+    let line : IsFlowLine flow = record { name = omega (arith, c.in_ok-name.ensures.bound); key = c.in_ok-key.ensures.fits; once = rw c.new-path.ensures c.in_ok-hops.ensures.once } in
+    flow_more (view c.args.self.now) c.put_flow.new.flows.items flow c.put_flow.new.places.items c.requires fits c.in_ok-put_flow.ensures.added line (omega (arith, c.in_ok-room_for.ensures.fits)) c.put_flow.ensures.indexed

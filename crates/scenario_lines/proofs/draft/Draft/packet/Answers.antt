@@ -14,3 +14,4 @@ returns-clause-fits c =
     c.in_ok-push.ensures.items
     (omega (arith, c.in_ok-room_up_to.ensures.fits, c.args.self.now.counted))
     (λ i lt. omega (arith, c.requires.scenario.few_ends i lt))
+    (omega (arith, c.in_ok-size.ensures.bound), rw c.new-delays.ensures c.in_ok-delays.ensures.small, c.in_ok-burst.ensures.some)

@@ -4,4 +4,4 @@ use Rattle.scenario_lines.proofs.ScenarioLemmas.{picked, before_pick}
 use Rattle.scenario_lines.proofs.draft.Draft.pick.Goals as goal
 
 pub returns-clause-fits : goal.returns-clause-fits
-returns-clause-fits c = picked (view c.args.self.now) c.in_ok-pick.pick Declarations c.requires.fits (before_pick c.args.self.now.section c.requires.place)
+returns-clause-fits c = picked (view c.args.self.now) c.in_ok-pick.pick Declarations c.requires.fits (before_pick c.args.self.now.section c.requires.place) c.in_ok-pick.ensures.bound

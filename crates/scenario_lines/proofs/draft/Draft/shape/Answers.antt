@@ -5,4 +5,4 @@ use Rattle.scenario_lines.proofs.draft.Draft.shape.Goals as goal
 
 pub returns-clause-fits : goal.returns-clause-fits
 returns-clause-fits c = shaped (view c.args.self.now) (record { rows = c.in_ok-rows.rows; width = c.in_ok-width.width; hash = c.in_ok-hash.hash }) Third c.requires.fits (before_shape c.args.self.now.section c.requires.place)
-    (record { some_rows = c.in_ok-rows.ensures.least; few_rows = c.in_ok-rows.ensures.bound; some_width = c.in_ok-width.ensures.least; few_width = c.in_ok-width.ensures.bound })
+    (record { some_rows = c.in_ok-rows.ensures.least; few_rows = c.in_ok-rows.ensures.bound; some_width = c.in_ok-width.ensures.least; few_width = c.in_ok-width.ensures.bound }) c.in_ok-hash.ensures.bound

@@ -1,0 +1,5 @@
+use Rattle.scenario_text.proofs.TextAgain.{printed}
+use Rattle.scenario_text.proofs.laws.printed_is_read.Goals as goal
+
+pub returns : goal.returns
+returns c = printed
