@@ -20,9 +20,13 @@ mod reading;
 mod scenario;
 #[cfg(test)]
 mod tests;
+#[cfg(test)]
+mod print_tests;
+#[cfg(test)]
+mod whys_tests;
 
 pub use fault::ScenarioFault;
-pub use laws::{prefix_decides, worked_texts};
+pub use laws::{prefix_decides, printed_is_read, worked_texts};
 pub use printing::print;
 pub use reading::read;
 pub use scenario::Scenario;

@@ -21,14 +21,14 @@ const HEAD: &str = "guardian 1\nshape 2 1 ports\npick turns\nhost 1\nswitch 1\n"
 const FLOW: &str =
     "guardian 1\nshape 2 1 ports\npick turns\nhost 1\nswitch 1\nflow 1 10.0.0.1 10.0.0.2 6 2 1 host 1 path 1\n";
 
-fn source(alloc: Global, text: &[u8], piece: usize) -> Result<MemorySource, Fail>
+pub(crate) fn source(alloc: Global, text: &[u8], piece: usize) -> Result<MemorySource, Fail>
     requires { 0 < piece }
 {
     Ok(MemorySource::new(text.to_vec(alloc)?, piece, Vec::new(alloc)))
 }
 
 // The fault of a text, the same in pieces of every size.
-fn fault(rt: &impl Abort, alloc: Global, text: &[u8]) -> Result<Option<ScenarioFault>, Fail> {
+pub(crate) fn fault(rt: &impl Abort, alloc: Global, text: &[u8]) -> Result<Option<ScenarioFault>, Fail> {
     let mut small = source(alloc, text, 1)?;
     let answer = read(alloc, &mut small).err();
     for piece in [7, 4096] {
@@ -38,7 +38,7 @@ fn fault(rt: &impl Abort, alloc: Global, text: &[u8]) -> Result<Option<ScenarioF
     Ok(answer)
 }
 
-fn bad(line: u32, why: Why) -> Option<ScenarioFault> {
+pub(crate) fn bad(line: u32, why: Why) -> Option<ScenarioFault> {
     Some(ScenarioFault::Bad { line, why })
 }
 
