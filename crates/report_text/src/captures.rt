@@ -18,6 +18,7 @@ fn put_digits(out: &mut Vec<u8>, packed: &Packed) -> Result<(), Memory>
     let bytes = packed.spelled();
     let mut digits = [0; 124];
     let text = &mut digits[..2 * bytes.len()];
+    // The text has two places for each byte, so this can't fail.
     let _ = encode_to_slice(bytes, text);
     put_text(out, text)
 }
