@@ -23,8 +23,8 @@ fn put_digits(out: &mut Vec<u8>, packed: &Packed) -> Result<(), Memory>
     put_text(out, text)
 }
 
-/// Appends `host H X`, X being the bytes that count in lower-case hexadecimal, and the byte 10. The length is at most
-/// 62.
+/// Appends `host H X`, X being the bytes that count in lower-case hexadecimal, and the byte 10. The length is at most 62.
+/// At `Memory` what stood before is kept, and a part of the line may stand behind it (docs/FORMATS.md, Output lines).
 #[tactic(auto, using(crate::proofs::Keeping::keeps_itself, crate::proofs::Keeping::keeps_after), unfolding(crate::specs::Lines::hex_line))]
 pub fn put_hex_line(out: &mut Vec<u8>, host: u16, packed: &Packed) -> Result<(), Memory>
     requires { packed.now.len ≤ 62 }
@@ -36,7 +36,7 @@ pub fn put_hex_line(out: &mut Vec<u8>, host: u16, packed: &Packed) -> Result<(),
     put_text(out, b"\n")
 }
 
-/// The line of a sketchlet that came to that host. The length is at most 62.
+/// The line that [`put_hex_line`] appends, alone. The length is at most 62. `Memory` comes only for want of memory.
 pub fn hex_line(alloc: Global, host: u16, packed: &Packed) -> Result<Vec<u8>, Memory>
     requires { packed.now.len ≤ 62 }
     ensures { IfOk result (λ line. line.items ≡ line_of host (packed_bytes packed.now)) }
@@ -46,7 +46,8 @@ pub fn hex_line(alloc: Global, host: u16, packed: &Packed) -> Result<Vec<u8>, Me
     Ok(line)
 }
 
-/// Appends `sketchlets N` and the byte 10.
+/// Appends `sketchlets N` and the byte 10. At `Memory` what stood before is kept, and a part of the line may stand behind
+/// it.
 #[tactic(auto, using(crate::proofs::Keeping::keeps_itself, crate::proofs::Keeping::keeps_after), unfolding(crate::specs::Lines::sketchlets_line))]
 pub fn put_sketchlets_line(out: &mut Vec<u8>, count: usize) -> Result<(), Memory>
     ensures { AppendsText result out.old.items out.new.items (sketchlets_line count) }
