@@ -1,5 +1,5 @@
 //! The lines of a capture.
-ghost use Rattle.std.specs.Prelude.{◌≡◌, ◌++◌, ◌≤◌, IfOk};
+ghost use Rattle.std.specs.Prelude.{◌≡◌, ◌≤◌, IfOk};
 ghost use Rattle.hex.specs.Hex.{encode_lower};
 ghost use Rattle.sketchlet_wire.specs.Packing.{packed_bytes};
 ghost use Rattle.report_text.specs.Lines.{hex_line as line_of, sketchlets_line, AppendsText};
