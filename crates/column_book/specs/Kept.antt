@@ -17,6 +17,7 @@ pub record BookState : Type 0 where
 abbrev pub Entries : Type 0
 Entries = List (Key × ColumnData)
 
+-- An entry of the content: the key and the buckets of a kept column.
 abbrev pub key_and_buckets : Key × ColumnData → Key × List Bucket
 key_and_buckets e = (e.0, e.1.buckets)
 

@@ -33,6 +33,7 @@ pub record IsTold (counter : Bucket → ℕ) (limit : ℕ) (look : Look) (shape 
   pub saturated : value ≡ Saturated ↔ IsLeast counter look shape s e f limit
   pub at_most : (n : ℕ) → value ≡ AtMost n ↔ (IsLeast counter look shape s e f n × (n ≢ limit))
 
+-- An answer says exactly what the rows do: whether any is known, and the least of each counter.
 pub record IsExact (look : Look) (shape : Shape) (s e : ℕ) (f : FlowKey) (a : Answer) : Type 0 where
   pub rows : a.rows_known ≡ 0 ↔ NoneIsKnown look shape s e f
   pub bytes : IsTold (λ b. b.bytes) MAX_BYTES look shape s e f a.bytes

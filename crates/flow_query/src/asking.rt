@@ -1,7 +1,7 @@
 //! The answer for a flow (docs/DEFINITIONS.md, Answer).
 ghost use Rattle.std.specs.Prelude.{◌≡◌, ◌<◌};
 ghost use Rattle.std.specs.Option.{option_map};
-ghost use Rattle.lg_model.specs.Answer.{look_in, known_at, answer as answer_by};
+ghost use Rattle.lg_model.specs.Answer.{look_in, answer as answer_by};
 ghost use Rattle.lg_model.specs.Sketch.{bucket_in};
 
 use crate::least::Known;

@@ -16,6 +16,7 @@ pub(crate) struct Known {
     pub(crate) least: Option<Bucket>,
 }
 
+// The lower counters of two buckets.
 fn lower_of(a: Bucket, b: Bucket) -> Bucket
     ensures { result ≡ lower a b }
 {

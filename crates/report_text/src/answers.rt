@@ -1,6 +1,5 @@
 //! The lines of a report.
-ghost use Rattle.std.specs.Prelude.{◌≡◌, ◌++◌, ◌∷◌, [], codes, IfOk};
-ghost use Rattle.std.specs.Fmt.{decimal};
+ghost use Rattle.std.specs.Prelude.{◌≡◌, ◌++◌, codes, IfOk};
 ghost use Rattle.lg_model.specs.Report.{value_text, answer_line as line_of, columns_line};
 ghost use Rattle.report_text.specs.Lines.{field, AppendsText};
 
@@ -43,7 +42,9 @@ fn put_told(out: &mut Vec<u8>, rows: u8, answer: &Answer) -> Result<(), Memory>
     Ok(())
 }
 
-/// Appends `flow F switch S epoch E rows K of R bytes B delay D` and the byte 10.
+/// Appends `flow F switch S epoch E rows K of R bytes B delay D` and the byte 10: the flow, the switch and the epoch of the
+/// question, then the answer, with `rows` the rows of the shape. At `Memory` what stood before is kept, and a part of the
+/// line may stand behind it (docs/FORMATS.md, Output lines).
 #[tactic(auto, using(crate::proofs::Keeping::keeps_itself, crate::proofs::Keeping::keeps_after), unfolding(lg_model::specs::Report::answer_line))]
 pub fn put_answer_line(
     out: &mut Vec<u8>,
@@ -61,7 +62,7 @@ pub fn put_answer_line(
     Ok(())
 }
 
-/// The line of an answer. The flow, the switch and the epoch are those of the question, `rows` the rows of the shape.
+/// The line that [`put_answer_line`] appends, alone. `Memory` comes only for want of memory.
 pub fn answer_line(
     alloc: Global,
     flow: u16,
@@ -77,7 +78,7 @@ pub fn answer_line(
     Ok(line)
 }
 
-/// Appends `columns N` and the byte 10.
+/// Appends `columns N` and the byte 10. At `Memory` what stood before is kept, and a part of the line may stand behind it.
 #[tactic(auto, using(crate::proofs::Keeping::keeps_itself, crate::proofs::Keeping::keeps_after), unfolding(lg_model::specs::Report::columns_line))]
 pub fn put_columns_line(out: &mut Vec<u8>, count: usize) -> Result<(), Memory>
     ensures { AppendsText result out.old.items out.new.items (columns_line count) }

@@ -1,5 +1,5 @@
 //! The lines of a capture.
-ghost use Rattle.std.specs.Prelude.{◌≡◌, ◌++◌, ◌≤◌, IfOk};
+ghost use Rattle.std.specs.Prelude.{◌≡◌, ◌≤◌, IfOk};
 ghost use Rattle.hex.specs.Hex.{encode_lower};
 ghost use Rattle.sketchlet_wire.specs.Packing.{packed_bytes};
 ghost use Rattle.report_text.specs.Lines.{hex_line as line_of, sketchlets_line, AppendsText};
@@ -18,12 +18,13 @@ fn put_digits(out: &mut Vec<u8>, packed: &Packed) -> Result<(), Memory>
     let bytes = packed.spelled();
     let mut digits = [0; 124];
     let text = &mut digits[..2 * bytes.len()];
+    // The text has two places for each byte, so this can't fail.
     let _ = encode_to_slice(bytes, text);
     put_text(out, text)
 }
 
-/// Appends `host H X`, X being the bytes that count in lower-case hexadecimal, and the byte 10. The length is at most
-/// 62.
+/// Appends `host H X`, X being the bytes that count in lower-case hexadecimal, and the byte 10. The length is at most 62.
+/// At `Memory` what stood before is kept, and a part of the line may stand behind it (docs/FORMATS.md, Output lines).
 #[tactic(auto, using(crate::proofs::Keeping::keeps_itself, crate::proofs::Keeping::keeps_after), unfolding(crate::specs::Lines::hex_line))]
 pub fn put_hex_line(out: &mut Vec<u8>, host: u16, packed: &Packed) -> Result<(), Memory>
     requires { packed.now.len ≤ 62 }
@@ -35,7 +36,7 @@ pub fn put_hex_line(out: &mut Vec<u8>, host: u16, packed: &Packed) -> Result<(),
     put_text(out, b"\n")
 }
 
-/// The line of a sketchlet that came to that host. The length is at most 62.
+/// The line that [`put_hex_line`] appends, alone. The length is at most 62. `Memory` comes only for want of memory.
 pub fn hex_line(alloc: Global, host: u16, packed: &Packed) -> Result<Vec<u8>, Memory>
     requires { packed.now.len ≤ 62 }
     ensures { IfOk result (λ line. line.items ≡ line_of host (packed_bytes packed.now)) }
@@ -45,7 +46,8 @@ pub fn hex_line(alloc: Global, host: u16, packed: &Packed) -> Result<Vec<u8>, Me
     Ok(line)
 }
 
-/// Appends `sketchlets N` and the byte 10.
+/// Appends `sketchlets N` and the byte 10. At `Memory` what stood before is kept, and a part of the line may stand behind
+/// it.
 #[tactic(auto, using(crate::proofs::Keeping::keeps_itself, crate::proofs::Keeping::keeps_after), unfolding(crate::specs::Lines::sketchlets_line))]
 pub fn put_sketchlets_line(out: &mut Vec<u8>, count: usize) -> Result<(), Memory>
     ensures { AppendsText result out.old.items out.new.items (sketchlets_line count) }

@@ -7,8 +7,7 @@
 //! | [`hex_line`], [`put_hex_line`] | the line of a sketchlet |
 //! | [`put_text`], [`put_number`] | what other lines are written with |
 //!
-//! A `put` appends to the bytes of a list. Every line ends with the byte 10. At `Memory` a front of the line may have
-//! been appended.
+//! A `put` appends to the bytes of a list. Every line ends with the byte 10.
 #![tactic(auto, using(crate::proofs::Keeping::keeps_itself, crate::proofs::Keeping::keeps_after))]
 
 mod answers;

@@ -1,5 +1,4 @@
 //! What lines are written with.
-ghost use Rattle.std.specs.Prelude.{◌≡◌, ◌++◌};
 ghost use Rattle.std.specs.Fmt.{decimal};
 ghost use Rattle.report_text.specs.Lines.{field, AppendsOrNot, AppendsText};
 
