@@ -3,10 +3,9 @@
 
 use guardian_run::guardian;
 use lg_base::{StdSink, StdSource};
-use std::env;
-use std::io;
 use std::process::ExitCode;
 use std::rt::Env;
+use std::{env, io};
 
 // The exit status where the words cannot be had, as for want of memory.
 const NO_WORDS: u8 = 11;

@@ -1,1 +1,4 @@
 pub mod Keeping
+pub mod Found
+pub mod Brought
+pub mod True

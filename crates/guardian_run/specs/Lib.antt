@@ -1,3 +1,4 @@
 pub mod Statuses
 pub mod Outputs
 pub mod Top
+pub mod Truth

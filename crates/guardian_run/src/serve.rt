@@ -3,9 +3,11 @@ ghost use Rattle.std.specs.Prelude.{◌≡◌, ◌≤◌, IsOk, IsErr, IfSome, I
 ghost use Rattle.lg_base.specs.Causes.{Rose};
 ghost use Rattle.scenario_text.specs.Text.{reading, IsTaken};
 ghost use Rattle.guardian_run.specs.Outputs.{output_of};
+ghost use Rattle.guardian_run.specs.Truth.{IsTrueRun};
 ghost use Rattle.guardian_run.specs.Top.{Writes, WritesRefusal, IsComplete, IsRead};
 
 use crate::capture::capture;
+use crate::laws::runs_are_true;
 use crate::lines::{refuse, scenario_fault};
 use crate::report::{book, report};
 use crate::status::Status;
@@ -17,9 +19,11 @@ use std::alloc::Global;
 
 // What a command writes of a scenario. Memory where there is none for the network, the book or the lines.
 fn output(alloc: Global, command: Command, scenario: &Scenario) -> Result<Vec<u8>, Memory>
-    ensures { IfOk result (λ text. text.items ≡ output_of command scenario.now) }
+    ensures text { IfOk result (λ text. text.items ≡ output_of command scenario.now) }
+    ensures truth { IfOk result (λ _. IsTrueRun scenario.now) }
 {
     let arrivals = run_own(alloc, scenario)?;
+    runs_are_true(scenario);
     match command {
         Command::Run => {
             let book = book(alloc, scenario, &arrivals)?;
@@ -46,6 +50,7 @@ pub fn serve<S: Source, K: Sink>(
         → (Rose (S.faults source.old) (S.faults source.new) → ⊥) → (Rose (K.faults sink.old) (K.faults sink.new) → ⊥) → IsComplete result) }
     ensures written { IfSome (S.left source.old) (λ input.
         Writes command result (reading input) (K.written sink.old) (K.written sink.new) (K.faults sink.old) (K.faults sink.new)) }
+    ensures truth { result ≡ Status.Ok → IfSome (S.left source.old) (λ input. IfOk (reading input) IsTrueRun) }
     ensures refused { WritesRefusal result (K.written sink.old) (K.written sink.new) (K.faults sink.old) (K.faults sink.new) }
 {
     let scenario = match read(alloc, source) {

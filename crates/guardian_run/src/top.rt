@@ -1,8 +1,9 @@
 //! The top calls.
-ghost use Rattle.std.specs.Prelude.{◌≡◌, ◌↔◌, None, map, IsOk, IsErr, IsSome, IfSome, string_bytes};
+ghost use Rattle.std.specs.Prelude.{◌≡◌, ◌↔◌, None, map, IsOk, IsErr, IsSome, IfSome, IfOk, string_bytes};
 ghost use Rattle.lg_base.specs.Causes.{Rose};
 ghost use Rattle.scenario_text.specs.Text.{reading, IsTaken};
 ghost use Rattle.guardian_words.specs.Words.{command_of};
+ghost use Rattle.guardian_run.specs.Truth.{IsTrueRun};
 ghost use Rattle.guardian_run.specs.Top.{WritesFor, WritesRefusal, IsComplete, IsRead, reading_command};
 
 use crate::lines::refuse;
@@ -33,6 +34,7 @@ pub fn guardian_read<S: Source, K: Sink>(
         → (Rose (S.faults source.old) (S.faults source.new) → ⊥) → (Rose (K.faults sink.old) (K.faults sink.new) → ⊥) → IsComplete result) }
     ensures written { IfSome (S.left source.old) (λ input.
         WritesFor (reading_command (command_of (map (λ w. string_bytes w) words.now))) result (reading input) (K.written sink.old) (K.written sink.new) (K.faults sink.old) (K.faults sink.new)) }
+    ensures truth { result ≡ Status.Ok → IfSome (S.left source.old) (λ input. IfOk (reading input) IsTrueRun) }
     ensures refused { WritesRefusal result (K.written sink.old) (K.written sink.new) (K.faults sink.old) (K.faults sink.new) }
 {
     match command(words) {
@@ -43,6 +45,10 @@ pub fn guardian_read<S: Source, K: Sink>(
 
 /// Does what the words say: `run` reads a scenario from the source, runs its network and writes the report into the
 /// sink; `capture` writes the sketchlets that came to the hosts.
+///
+/// At `Ok` what packets carried is allowed, each column that came to a host is the one its switch froze, and each
+/// answer is true: no number is below the true value, `unknown` comes exactly where no column of the flow arrived,
+/// `saturated` exactly where the least known counter is the counter's last value.
 ///
 /// `BadWords` exactly where the words are no command. `BadScenario` exactly where they are, the status is not
 /// `ReadFault` and not want of memory, and the deciding prefix of the bytes that the source has left is no scenario
@@ -64,6 +70,7 @@ pub fn guardian<S: Source, K: Sink>(
         → (Rose (S.faults source.old) (S.faults source.new) → ⊥) → (Rose (K.faults sink.old) (K.faults sink.new) → ⊥) → IsComplete result) }
     ensures written { IfSome (S.left source.old) (λ input.
         WritesFor (command_of (map (λ w. string_bytes w) words.now)) result (reading input) (K.written sink.old) (K.written sink.new) (K.faults sink.old) (K.faults sink.new)) }
+    ensures truth { result ≡ Status.Ok → IfSome (S.left source.old) (λ input. IfOk (reading input) IsTrueRun) }
     ensures refused { WritesRefusal result (K.written sink.old) (K.written sink.new) (K.faults sink.old) (K.faults sink.new) }
 {
     match command(words) {

@@ -36,7 +36,10 @@ mod tests {
         assert_eq!(rt; command(&capture), Some(Command::Capture));
         let runs = [String::from_str(alloc, "runs")?];
         assert_eq!(rt; command(&runs), None);
-        let two = [String::from_str(alloc, "run")?, String::from_str(alloc, "x")?];
+        let two = [
+            String::from_str(alloc, "run")?,
+            String::from_str(alloc, "x")?,
+        ];
         assert_eq!(rt; command(&two), None);
         assert_eq!(rt; command(&[]), None);
         Ok(())
