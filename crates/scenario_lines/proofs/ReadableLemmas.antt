@@ -1,5 +1,5 @@
 -- What one line adds leaves parts whose lines can be read again.
-use Rattle.std.proofs.Common.{◌≡◌, ◌≢◌, ℕ, ◌<◌, ◌≤◌, Bool, true, false, eqb, List, [], ◌∷◌, ◌++◌, length, length-append, get_or, map, refl, sym, ap, ◌∙◌, arith, All}
+use Rattle.std.proofs.Common.{◌≡◌, ◌≢◌, ℕ, ◌<◌, ◌≤◌, Bool, true, false, eqb, List, [], ◌∷◌, ◌++◌, length, length-append, get_or, refl, sym, ap, ◌∙◌, arith, All}
 use Rattle.std.specs.Prelude.{slice_get, slice_index, Option, Some, None, ◌==◌}
 use Rattle.std.specs.List.{list_any}
 use Rattle.std.proofs.Math.Seq.{map-set_same}
@@ -8,7 +8,6 @@ use Rattle.std.proofs.lemmas.List.{get_or_default, get_or-map, map-append, lengt
 use Rattle.std.proofs.lemmas.List.Elements.{All-push, All-set}
 use Rattle.std.proofs.lemmas.List.Folds.{list_any_at, list_any-append}
 use Rattle.std.proofs.lemmas.List.Quantifiers.{all_pairs_push}
-use Rattle.lg_model.specs.declared.scenario.Hash.{Hash}
 use Rattle.lg_model.specs.declared.scenario.Pick.{Pick}
 use Rattle.lg_model.specs.declared.scenario.Letter.{Letter}
 use Rattle.lg_model.specs.declared.scenario.HostLine.{HostLine}
@@ -56,10 +55,10 @@ hosts_apart : (hosts : List HostLine) (h : HostLine) → AreApart (host_names ho
 hosts_apart hosts h ok fresh =
     rw (map-append (λ (g : HostLine). g.name) hosts (h ∷ []))
     (all_pairs_push (λ m n. m ≢ n) (host_names hosts) h.name ok (λ k d lt.
-        let len = length-map hosts (λ (g : HostLine). g.name) in
-        let here = get_or-map (λ (g : HostLine). g.name) hosts k h d (omega (arith, len, lt)) in
-        let other = absent (λ (g : HostLine). eqb g.name h.name) hosts fresh k h (omega (arith, len, lt)) in
-        rw here (differ (get_or hosts k h).name h.name other)))
+    let len = length-map hosts (λ (g : HostLine). g.name) in
+    let here = get_or-map (λ (g : HostLine). g.name) hosts k h d (omega (arith, len, lt)) in
+    let other = absent (λ (g : HostLine). eqb g.name h.name) hosts fresh k h (omega (arith, len, lt)) in
+    rw here (differ (get_or hosts k h).name h.name other)))
 
 -- ---- letters
 

@@ -1,6 +1,5 @@
 -- What each line means: the words that it has, from left to right, and the state behind it, or the first why.
-use Rattle.std.specs.Prelude.{ℕ, Bool, true, false, List, [], ◌∷◌, ◌++◌, length, Option, Some, None, Result, Ok, Err, codes, nat_lt, ◌==◌, ◌||◌, ◌+◌, if◌then◌else◌, slice_get, slice_set}
-use Rattle.std.specs.List.{list_any}
+use Rattle.std.specs.Prelude.{ℕ, Bool, true, List, [], ◌∷◌, ◌++◌, length, Option, Some, None, Result, Ok, Err, codes, ◌==◌, ◌+◌, if◌then◌else◌, slice_get, slice_set}
 use Rattle.std.specs.Str.{bytes_eq}
 use Rattle.flow_key.specs.Words.{words_at}
 use Rattle.lg_model.specs.declared.scenario.Letter.{Letter}

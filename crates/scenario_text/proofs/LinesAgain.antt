@@ -1,16 +1,16 @@
 -- The lines of the parts of a scenario are read again.
-use Rattle.std.proofs.Common.{◌≡◌, ◌≢◌, ℕ, suc, zero, ◌+◌, ◌<◌, ◌≤◌, ◌^◌, ◌&&◌, Bool, true, false, cond, eqb, ltb, leb, List, [], ◌∷◌, ◌++◌, length, length-append, get_or, set, map, Option, Some, None, Result, Ok, Err, refl, sym, ap, subst, ◌∙◌, arith, All, lit<, append_assoc}
-use Rattle.std.specs.Prelude.{codes, slice_get, slice_index, nat_lt, nat_le}
-use Rattle.std.specs.List.{list_any, list_all, position, sum_by, count_by}
+use Rattle.std.proofs.Common.{◌≡◌, ℕ, suc, zero, ◌+◌, ◌<◌, ◌≤◌, ◌^◌, Bool, true, false, eqb, List, [], ◌∷◌, ◌++◌, length, length-append, set, map, Some, None, Ok, refl, sym, ap, ◌∙◌, arith, All, lit<, append_assoc}
+use Rattle.std.specs.Prelude.{codes, slice_get, slice_index}
+use Rattle.std.specs.List.{list_any, list_all, position}
 use Rattle.std.specs.Str.{bytes_eq}
 use Rattle.std.specs.Fmt.{decimal}
 use Rattle.std.proofs.Math.Seq.{get_or-append_seam}
 use Rattle.std.proofs.lemmas.Bool.{le-leb, lt-ltb}
-use Rattle.std.proofs.lemmas.List.{append-nil, get_or_append_left, get_or-map, length-map}
+use Rattle.std.proofs.lemmas.List.{append-nil, get_or_append_left, length-map}
 use Rattle.std.proofs.lemmas.Slice.Eq.{bytes_eq-Decides}
 use Rattle.flow_key.specs.declared.key.FlowKey.{FlowKey}
 use Rattle.flow_key.specs.KeyText.{Fits}
-use Rattle.flow_key.specs.Words.{number_to, is_number, value_to}
+use Rattle.flow_key.specs.Words.{number_to, is_number}
 use Rattle.flow_key.proofs.KeyLemmas.{number_again, address_again}
 use Rattle.lg_model.specs.declared.scenario.Hash.{Hash}
 use Rattle.lg_model.specs.declared.scenario.Hash.TheVariants as hashes
@@ -36,7 +36,7 @@ use Rattle.scenario_lines.specs.Counts.{names_of, path_at, ends_of}
 use Rattle.scenario_lines.specs.Readable.{AreApart, IsHash, IsPick, IsFlowLine}
 use Rattle.scenario_lines.specs.Spelling.{Words, joined, guardian_words, shape_words, hash_words, pick_words, pick_line_words, host_words, switch_words, host_names, key_parts, path_words, flow_words, byte_of, link_words, burst_words, fate_words, step_words, ask_words, done_words}
 use Rattle.scenario_lines.specs.Draft.{State}
-use Rattle.scenario_lines.specs.Fields.{◌>>=◌, number, word, ended, fresh, known, place, fresh_host, host_place, fresh_flow, room, room_to, all_room, room_for_all, key_address, key_number, key, hop, path, hash, pick, is_letter, letter_of, letters_word, delays, burst, fate, fate_ended}
+use Rattle.scenario_lines.specs.Fields.{word, ended, fresh, known, place, fresh_host, host_place, fresh_flow, room, room_to, all_room, room_for_all, key_address, key_number, key, hop, path, hash, pick, is_letter, letter_of, letters_word, delays, burst, fate, fate_ended}
 use Rattle.scenario_lines.specs.Line.{shape_line, pick_line, host_line, switch_line, flow_line, unlinked, link_line, packet_line, end_one, end_all, end_line, release_line, ask_line, done_line, form_of, words_line, is_skipped, line_of}
 use Rattle.scenario_lines.proofs.IndexLemmas.{position_none}
 use Rattle.scenario_lines.proofs.ReadableLemmas.{absent}

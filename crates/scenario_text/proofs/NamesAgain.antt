@@ -1,6 +1,6 @@
 -- Names that don't come twice are found at their positions.
-use Rattle.std.proofs.Common.{◌≡◌, ◌≢◌, ℕ, suc, zero, ◌+◌, ◌<◌, ◌≤◌, Bool, true, false, eqb, ltb, ◌||◌, List, [], ◌∷◌, ◌++◌, length, length-append, get_or, map, Some, refl, sym, ap, ◌∙◌, arith, All}
-use Rattle.std.specs.List.{list_any, position, position_or_len, AllPairs}
+use Rattle.std.proofs.Common.{◌≡◌, ◌≢◌, ℕ, ◌<◌, Bool, true, false, eqb, ltb, ◌||◌, List, [], ◌∷◌, ◌++◌, length, length-append, get_or, map, Some, refl, ap, arith, All}
+use Rattle.std.specs.List.{list_any, position, position_or_len}
 use Rattle.std.proofs.Math.Seq.{get_or-append_seam}
 use Rattle.std.proofs.lemmas.List.{get_or_append_left, get_or-map, length-map}
 use Rattle.std.proofs.lemmas.List.Sums.{position_or_len_is}
@@ -38,8 +38,8 @@ thing_found name (y ∷ ys) at apart lt =
     let here : get_or (map name xs) at 0 ≡ name (get_or xs at y) = get_or-map name xs at y 0 lt in
     position_is (λ x. eqb (name x) (get_or (map name xs) at 0)) xs at y lt (rw here (same (name (get_or xs at y))))
     (λ k less.
-        let there : get_or (map name xs) k 0 ≡ name (get_or xs k y) = get_or-map name xs k y 0 (omega arith) in
-        rw (← there) (differ (get_or (map name xs) k 0) (get_or (map name xs) at 0) (apart k at 0 less (omega (arith, len)))))
+    let there : get_or (map name xs) k 0 ≡ name (get_or xs k y) = get_or-map name xs k y 0 (omega arith) in
+    rw (← there) (differ (get_or (map name xs) k 0) (get_or (map name xs) at 0) (apart k at 0 less (omega (arith, len)))))
 
 -- No earlier name is this one.
 pub name_fresh : (done rest : List ℕ) (n : ℕ) → AreApart (done ++ n ∷ rest) → list_any (λ m. eqb m n) done ≡ false

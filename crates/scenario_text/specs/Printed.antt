@@ -1,5 +1,5 @@
 -- The text of a scenario.
-use Rattle.std.specs.Prelude.{ℕ, List, [], ◌∷◌, ◌++◌, length, ◌==◌, if◌then◌else◌}
+use Rattle.std.specs.Prelude.{ℕ, List, [], ◌++◌, length, ◌==◌, if◌then◌else◌}
 use Rattle.std.specs.List.{flat_map}
 use Rattle.lg_model.specs.declared.scenario.HostLine.{HostLine}
 use Rattle.lg_model.specs.Scenario.{Scenario}

@@ -10,6 +10,8 @@
 
 mod fault;
 mod laws;
+#[cfg(test)]
+mod print_tests;
 mod printing;
 mod put;
 mod put_declared;
@@ -20,8 +22,6 @@ mod reading;
 mod scenario;
 #[cfg(test)]
 mod tests;
-#[cfg(test)]
-mod print_tests;
 #[cfg(test)]
 mod whys_tests;
 

@@ -52,11 +52,7 @@ pub(crate) fn put_key(out: &mut Vec<u8>, key: &FlowKey) -> Result<(), AllocError
 }
 
 // The names of the switches of a path, each behind a space. A path has at most 16, so the calls are at most 17 deep.
-pub(crate) fn put_path(
-    out: &mut Vec<u8>,
-    switches: &[u16],
-    path: &[u16],
-) -> Result<(), AllocError>
+pub(crate) fn put_path(out: &mut Vec<u8>, switches: &[u16], path: &[u16]) -> Result<(), AllocError>
     requires { list_all (λ at. nat_lt at (length switches.now)) path.now ≡ true }
     ensures { OnOk result (out.new.items ≡ out.old.items ++ spaced (path_words switches.now path.now)) }
 {

@@ -145,11 +145,7 @@ fn put_ask(out: &mut Vec<u8>, flows: &[Flow], ask: &Ask) -> Result<(), AllocErro
     put_byte(out, b'\n')
 }
 
-pub(crate) fn put_asks(
-    out: &mut Vec<u8>,
-    flows: &[Flow],
-    asks: &[Ask],
-) -> Result<(), AllocError>
+pub(crate) fn put_asks(out: &mut Vec<u8>, flows: &[Flow], asks: &[Ask]) -> Result<(), AllocError>
     requires { All (IsAsk flows.now) asks.now }
     ensures { OnOk result (out.new.items ≡ out.old.items ++ lines_text (ask_words flows.now) asks.now) }
 {

@@ -11,7 +11,8 @@ use std::marker::Model;
 
 /// A scenario (docs/FORMATS.md, Scenario text): a shape, a pick, and lists of hosts, switches, flows, steps and asks.
 /// Steps and asks name flows by their positions, flows name hosts and switches so, and an ask names its switch by its
-/// name. All positions are in range, and no limit is passed.
+/// name. All positions are in range, no limit is passed, and hosts, switches and flows have names of their own, so that
+/// the lines that say the parts can be read again.
 #[derive(Debug, Drop)]
 pub struct Scenario {
     shape: Shape,
@@ -66,7 +67,7 @@ impl Scenario {
         }
     }
 
-    /// The shape of the sketches of every switch.
+    /// The shape of the sketches of every switch. Clause `whole` says what every scenario keeps.
     pub fn shape(&self) -> Shape
         ensures value { result ≡ self.now.shape }
         ensures fits { model.IsScenario self.now }

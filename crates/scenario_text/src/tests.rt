@@ -28,7 +28,11 @@ pub(crate) fn source(alloc: Global, text: &[u8], piece: usize) -> Result<MemoryS
 }
 
 // The fault of a text, the same in pieces of every size.
-pub(crate) fn fault(rt: &impl Abort, alloc: Global, text: &[u8]) -> Result<Option<ScenarioFault>, Fail> {
+pub(crate) fn fault(
+    rt: &impl Abort,
+    alloc: Global,
+    text: &[u8],
+) -> Result<Option<ScenarioFault>, Fail> {
     let mut small = source(alloc, text, 1)?;
     let answer = read(alloc, &mut small).err();
     for piece in [7, 4096] {

@@ -44,7 +44,11 @@ fn packets(rt: HostRuntime) -> Result<(), Fail> {
         ("packet 1 100 5 6 burst 1000001\n", Why::BadNumber),
         ("packet 3 100 5 6\n", Why::UnknownName),
     ] {
-        assert_eq!(rt; behind_net(&rt, rt.alloc(), 0, "", line)?, bad(9, why), "{line}");
+        assert_eq!(rt;
+            behind_net(&rt, rt.alloc(), 0, "", line)?,
+            bad(9, why),
+            "{line}"
+        );
     }
     Ok(())
 }
@@ -56,9 +60,18 @@ fn names_and_letters(rt: HostRuntime) -> Result<(), Fail> {
         ("host 1 x\n", Why::Repeated),
         ("switch 2 x\n", Why::Repeated),
         ("flow 1 x\n", Why::Repeated),
-        ("flow 2 10.0.0.1 10.0.0.2 6 2 1 host 3 path 1\n", Why::UnknownName),
-        ("flow 2 10.0.0.1 10.0.0.2 6 2 1 host 1 path 1 1\n", Why::Repeated),
-        ("flow 2 10.0.0.1 10.0.0.2 6 2 1 host 1 path 1 3\n", Why::UnknownName),
+        (
+            "flow 2 10.0.0.1 10.0.0.2 6 2 1 host 3 path 1\n",
+            Why::UnknownName,
+        ),
+        (
+            "flow 2 10.0.0.1 10.0.0.2 6 2 1 host 1 path 1 1\n",
+            Why::Repeated,
+        ),
+        (
+            "flow 2 10.0.0.1 10.0.0.2 6 2 1 host 1 path 1 3\n",
+            Why::UnknownName,
+        ),
         ("flow 2 10.0.0.1 10.0.0 6 2 1\n", Why::BadKey),
         ("link 3 d\n", Why::UnknownName),
         ("link 1\n", Why::WordCount),
@@ -72,7 +85,11 @@ fn names_and_letters(rt: HostRuntime) -> Result<(), Fail> {
         ("unknown\n", Why::UnknownWord),
         ("shape 9 1 ports\n", Why::OutOfPlace),
     ] {
-        assert_eq!(rt; behind_net(&rt, rt.alloc(), 0, "", line)?, bad(9, why), "{line}");
+        assert_eq!(rt;
+            behind_net(&rt, rt.alloc(), 0, "", line)?,
+            bad(9, why),
+            "{line}"
+        );
     }
     for (line, next, why) in [
         ("link 1 dxarh\n", "link 1 z\n", Why::Repeated),
@@ -81,14 +98,19 @@ fn names_and_letters(rt: HostRuntime) -> Result<(), Fail> {
         ("release\n", "flow x\n", Why::OutOfPlace),
         ("packet 1 1 1 1\n", "switches 3\n", Why::UnknownWord),
     ] {
-        assert_eq!(rt; behind_net(&rt, rt.alloc(), 1, line, next)?, bad(10, why), "{next}");
+        assert_eq!(rt;
+            behind_net(&rt, rt.alloc(), 1, line, next)?,
+            bad(10, why),
+            "{next}"
+        );
     }
     Ok(())
 }
 
 #[test]
 fn paths_and_long_words(rt: HostRuntime) -> Result<(), Fail> {
-    let path = "switch 3\nswitch 4\nswitch 5\nswitch 6\nswitch 7\nswitch 8\nswitch 9\nswitch 10\nswitch 11\nswitch 12\nswitch 13\nswitch 14\nswitch 15\nswitch 16\nflow 2 10.0.0.1 10.0.0.2 6 2 1 host 1 path 1 2 3 4 5 6 7 8 9 10 11 12 13 14 15 16";
+    let path =
+        "switch 3\nswitch 4\nswitch 5\nswitch 6\nswitch 7\nswitch 8\nswitch 9\nswitch 10\nswitch 11\nswitch 12\nswitch 13\nswitch 14\nswitch 15\nswitch 16\nflow 2 10.0.0.1 10.0.0.2 6 2 1 host 1 path 1 2 3 4 5 6 7 8 9 10 11 12 13 14 15 16";
     for (more, why) in [
         (" x\n", Why::BadPath),
         (" 17\n", Why::BadPath),
@@ -96,7 +118,11 @@ fn paths_and_long_words(rt: HostRuntime) -> Result<(), Fail> {
         ("\n", Why::NoDone),
     ] {
         let line = if why == Why::NoDone { 24 } else { 23 };
-        assert_eq!(rt; behind_net(&rt, rt.alloc(), 1, path, more)?, bad(line, why), "{more}");
+        assert_eq!(rt;
+            behind_net(&rt, rt.alloc(), 1, path, more)?,
+            bad(line, why),
+            "{more}"
+        );
     }
     for (letters, want) in [(4096, None), (4097, bad(9, Why::BadLetters))] {
         let mut text = NET.as_bytes().to_vec(rt.alloc())?;
@@ -113,19 +139,48 @@ fn paths_and_long_words(rt: HostRuntime) -> Result<(), Fail> {
 #[test]
 fn limits(rt: HostRuntime) -> Result<(), Fail> {
     for (times, lines, more, want) in [
-        (1, "packet 1 1 1 1 burst 1000000\n", "packet 1 1 1 1\n", bad(10, Why::TooMany)),
-        (1, "packet 1 1 1 1 burst 1000000\n", "packet 1 1 1 1 x\n", bad(10, Why::BadWord)),
-        (1, "packet 1 1 1 1 burst 999999\n", "packet 1 1 1 1\ndone\n", None),
+        (
+            1,
+            "packet 1 1 1 1 burst 1000000\n",
+            "packet 1 1 1 1\n",
+            bad(10, Why::TooMany),
+        ),
+        (
+            1,
+            "packet 1 1 1 1 burst 1000000\n",
+            "packet 1 1 1 1 x\n",
+            bad(10, Why::BadWord),
+        ),
+        (
+            1,
+            "packet 1 1 1 1 burst 999999\n",
+            "packet 1 1 1 1\ndone\n",
+            None,
+        ),
         (65535, "end 1\n", "end all\n", bad(65544, Why::TooMany)),
         (65535, "end 1\n", "end 1\n", bad(65544, Why::TooMany)),
         (65535, "end 1\n", "end 1 1\n", bad(65544, Why::WordCount)),
         (65535, "end 1\n", "end 2\ndone\n", None),
         (65535, "end all\n", "end 2\n", bad(65544, Why::TooMany)),
-        (10000, "ask 1 1 0\n", "ask 1 1 0\n", bad(10009, Why::TooMany)),
-        (10000, "ask 1 1 0\n", "ask 1 1\n", bad(10009, Why::WordCount)),
+        (
+            10000,
+            "ask 1 1 0\n",
+            "ask 1 1 0\n",
+            bad(10009, Why::TooMany),
+        ),
+        (
+            10000,
+            "ask 1 1 0\n",
+            "ask 1 1\n",
+            bad(10009, Why::WordCount),
+        ),
         (9999, "ask 1 1 0\n", "ask 1 1 0\ndone\n", None),
     ] {
-        assert_eq!(rt; behind_net(&rt, rt.alloc(), times, lines, more)?, want, "{times} {more}");
+        assert_eq!(rt;
+            behind_net(&rt, rt.alloc(), times, lines, more)?,
+            want,
+            "{times} {more}"
+        );
     }
     Ok(())
 }

@@ -1,4 +1,4 @@
-use Rattle.std.proofs.Common.{◌≡◌, ◌≤◌, ◌++◌, List, ℕ, length, subst, sym, Ok}
+use Rattle.std.proofs.Common.{◌≡◌, ◌≤◌, List, ℕ, length, subst, sym, Ok}
 use Rattle.scenario_text.specs.Text.{reading}
 use Rattle.scenario_text.specs.Printed.{text_of}
 use Rattle.scenario_text.proofs.TextAgain.{printed}

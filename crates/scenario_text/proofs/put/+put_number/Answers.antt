@@ -1,4 +1,4 @@
-use Rattle.std.proofs.Common.{◌≡◌, arith, append_assoc, sym, ap}
+use Rattle.std.proofs.Common.{arith, append_assoc}
 use Rattle.std.proofs.lemmas.Fmt.{decimal_digit, decimal_step}
 use Rattle.scenario_text.proofs.put.+put_number.Goals as goal
 

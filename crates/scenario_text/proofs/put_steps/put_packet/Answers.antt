@@ -1,4 +1,4 @@
-use Rattle.std.proofs.Common.{◌≡◌, ◌∷◌, [], ◌++◌, ℕ, List, map, subst}
+use Rattle.std.proofs.Common.{◌≡◌, ◌∷◌, ◌++◌, ℕ, List, map, subst}
 use Rattle.std.specs.Prelude.{OnOk, codes}
 use Rattle.std.specs.Fmt.{decimal}
 use Rattle.scenario_lines.specs.Spelling.{burst_words, fate_words}
