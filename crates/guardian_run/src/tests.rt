@@ -20,63 +20,138 @@ const TWO: &str =
 const FOUR: &str =
     "guardian 1\nshape 2 2 ports\npick turns\nhost 1\nswitch 1\nflow 1 10.0.0.1 10.0.0.2 6 2 1 host 1 path 1\nflow 2 10.0.0.1 10.0.0.2 6 2 2 host 1 path 1\nflow 3 10.0.0.1 10.0.0.2 6 3 2 host 1 path 1\nflow 4 10.0.0.1 10.0.0.2 6 3 1 host 1 path 1\n";
 
-// The status and the output of a word, for an input in pieces of that size, where these calls of the streams fail.
+// A text of two parts.
+fn joined(alloc: Global, head: &str, rest: &str) -> Result<Vec<u8>, Fail> {
+    let mut text = head.as_bytes().to_vec(alloc)?;
+    text.extend_from_slice(rest.as_bytes())?;
+    Ok(text)
+}
+
+// The status and the output of a word, for an input in pieces of that size, where these reads and writes fail.
 fn told(
     alloc: Global,
     word: &str,
-    parts: [&str; 2],
+    text: Vec<u8>,
     piece: usize,
-    failing: [&[u32]; 2],
+    reads: &[u32],
+    writes: &[u32],
 ) -> Result<(Status, Vec<u8>), Fail>
     requires { 0 < piece }
 {
     let words = [String::from_str(alloc, word)?];
-    let mut text = parts[0].as_bytes().to_vec(alloc)?;
-    text.extend_from_slice(parts[1].as_bytes())?;
-    let mut source = MemorySource::new(text, piece, failing[0].to_vec(alloc)?);
-    let mut sink = MemorySink::new(alloc, piece, failing[1].to_vec(alloc)?);
+    let mut source = MemorySource::new(text, piece, reads.to_vec(alloc)?);
+    let mut sink = MemorySink::new(alloc, piece, writes.to_vec(alloc)?);
     let status = guardian(alloc, &words, &mut source, &mut sink);
     Ok((status, sink.bytes().to_vec(alloc)?))
 }
 
 #[test]
 fn reports(rt: HostRuntime) -> Result<(), Fail> {
-    let cases = [
+    for (head, rest, output) in [
         // The first scenario.
-        (ONE, "packet 1 1500 20\nend 1\npacket 1 100 5\nask 1 1 0\ndone\n", "flow 1 switch 1 epoch 0 rows 2 of 2 bytes 1500 delay 20\ncolumns 1\n"),
+        (
+            ONE,
+            "packet 1 1500 20\nend 1\npacket 1 100 5\nask 1 1 0\ndone\n",
+            "flow 1 switch 1 epoch 0 rows 2 of 2 bytes 1500 delay 20\ncolumns 1\n",
+        ),
         // Nothing carries.
-        (ONE, "packet 1 1500 20\nend 1\nask 1 1 0\ndone\n", "flow 1 switch 1 epoch 0 rows 0 of 2 bytes unknown delay unknown\ncolumns 0\n"),
+        (
+            ONE,
+            "packet 1 1500 20\nend 1\nask 1 1 0\ndone\n",
+            "flow 1 switch 1 epoch 0 rows 0 of 2 bytes unknown delay unknown\ncolumns 0\n",
+        ),
         // One column of two.
-        (FOUR, "packet 1 100 10\npacket 2 50 30\nend 1\npacket 1 10 1\nask 1 1 0\nask 2 1 0\nask 3 1 0\ndone\n", "flow 1 switch 1 epoch 0 rows 1 of 2 bytes 150 delay 30\nflow 2 switch 1 epoch 0 rows 2 of 2 bytes 50 delay 30\nflow 3 switch 1 epoch 0 rows 0 of 2 bytes unknown delay unknown\ncolumns 1\n"),
+        (
+            FOUR,
+            "packet 1 100 10\npacket 2 50 30\nend 1\npacket 1 10 1\nask 1 1 0\nask 2 1 0\nask 3 1 0\ndone\n",
+            "flow 1 switch 1 epoch 0 rows 1 of 2 bytes 150 delay 30\nflow 2 switch 1 epoch 0 rows 2 of 2 bytes 50 delay 30\nflow 3 switch 1 epoch 0 rows 0 of 2 bytes unknown delay unknown\ncolumns 1\n",
+        ),
         // Both columns, and collisions.
-        (FOUR, "packet 1 100 10\npacket 2 50 30\npacket 4 5 1\nend 1\npacket 1 10 1\npacket 1 10 1\nask 1 1 0\nask 2 1 0\nask 3 1 0\nask 4 1 0\ndone\n", "flow 1 switch 1 epoch 0 rows 2 of 2 bytes 100 delay 10\nflow 2 switch 1 epoch 0 rows 2 of 2 bytes 50 delay 30\nflow 3 switch 1 epoch 0 rows 2 of 2 bytes 5 delay 1\nflow 4 switch 1 epoch 0 rows 2 of 2 bytes 5 delay 1\ncolumns 2\n"),
+        (
+            FOUR,
+            "packet 1 100 10\npacket 2 50 30\npacket 4 5 1\nend 1\npacket 1 10 1\npacket 1 10 1\nask 1 1 0\nask 2 1 0\nask 3 1 0\nask 4 1 0\ndone\n",
+            "flow 1 switch 1 epoch 0 rows 2 of 2 bytes 100 delay 10\nflow 2 switch 1 epoch 0 rows 2 of 2 bytes 50 delay 30\nflow 3 switch 1 epoch 0 rows 2 of 2 bytes 5 delay 1\nflow 4 switch 1 epoch 0 rows 2 of 2 bytes 5 delay 1\ncolumns 2\n",
+        ),
         // A known zero.
-        (FOUR, "packet 1 100 10\npacket 2 50 30\nend 1\npacket 1 10 1\npacket 1 10 1\nask 1 1 0\nask 2 1 0\nask 3 1 0\ndone\n", "flow 1 switch 1 epoch 0 rows 2 of 2 bytes 100 delay 10\nflow 2 switch 1 epoch 0 rows 2 of 2 bytes 50 delay 30\nflow 3 switch 1 epoch 0 rows 2 of 2 bytes 0 delay 0\ncolumns 2\n"),
+        (
+            FOUR,
+            "packet 1 100 10\npacket 2 50 30\nend 1\npacket 1 10 1\npacket 1 10 1\nask 1 1 0\nask 2 1 0\nask 3 1 0\ndone\n",
+            "flow 1 switch 1 epoch 0 rows 2 of 2 bytes 100 delay 10\nflow 2 switch 1 epoch 0 rows 2 of 2 bytes 50 delay 30\nflow 3 switch 1 epoch 0 rows 2 of 2 bytes 0 delay 0\ncolumns 2\n",
+        ),
         // The greatest burst but one.
-        (ONE, "packet 1 65535 20 burst 65536\nend 1\npacket 1 100 5\nask 1 1 0\ndone\n", "flow 1 switch 1 epoch 0 rows 2 of 2 bytes 4294901760 delay 20\ncolumns 1\n"),
+        (
+            ONE,
+            "packet 1 65535 20 burst 65536\nend 1\npacket 1 100 5\nask 1 1 0\ndone\n",
+            "flow 1 switch 1 epoch 0 rows 2 of 2 bytes 4294901760 delay 20\ncolumns 1\n",
+        ),
         // Exactly the last value.
-        (ONE, "packet 1 65535 20 burst 65537\nend 1\npacket 1 100 5\nask 1 1 0\ndone\n", "flow 1 switch 1 epoch 0 rows 2 of 2 bytes saturated delay 20\ncolumns 1\n"),
+        (
+            ONE,
+            "packet 1 65535 20 burst 65537\nend 1\npacket 1 100 5\nask 1 1 0\ndone\n",
+            "flow 1 switch 1 epoch 0 rows 2 of 2 bytes saturated delay 20\ncolumns 1\n",
+        ),
         // Above the last value.
-        (ONE, "packet 1 65535 20 burst 65538\nend 1\npacket 1 100 5\nask 1 1 0\ndone\n", "flow 1 switch 1 epoch 0 rows 2 of 2 bytes saturated delay 20\ncolumns 1\n"),
+        (
+            ONE,
+            "packet 1 65535 20 burst 65538\nend 1\npacket 1 100 5\nask 1 1 0\ndone\n",
+            "flow 1 switch 1 epoch 0 rows 2 of 2 bytes saturated delay 20\ncolumns 1\n",
+        ),
         // The greatest delay but one.
-        (ONE, "packet 1 1500 65534\nend 1\npacket 1 100 5\nask 1 1 0\ndone\n", "flow 1 switch 1 epoch 0 rows 2 of 2 bytes 1500 delay 65534\ncolumns 1\n"),
+        (
+            ONE,
+            "packet 1 1500 65534\nend 1\npacket 1 100 5\nask 1 1 0\ndone\n",
+            "flow 1 switch 1 epoch 0 rows 2 of 2 bytes 1500 delay 65534\ncolumns 1\n",
+        ),
         // The last delay.
-        (ONE, "packet 1 1500 65535\nend 1\npacket 1 100 5\nask 1 1 0\ndone\n", "flow 1 switch 1 epoch 0 rows 2 of 2 bytes 1500 delay saturated\ncolumns 1\n"),
+        (
+            ONE,
+            "packet 1 1500 65535\nend 1\npacket 1 100 5\nask 1 1 0\ndone\n",
+            "flow 1 switch 1 epoch 0 rows 2 of 2 bytes 1500 delay saturated\ncolumns 1\n",
+        ),
         // A longer delay.
-        (ONE, "packet 1 1500 70000\nend 1\npacket 1 100 5\nask 1 1 0\ndone\n", "flow 1 switch 1 epoch 0 rows 2 of 2 bytes 1500 delay saturated\ncolumns 1\n"),
+        (
+            ONE,
+            "packet 1 1500 70000\nend 1\npacket 1 100 5\nask 1 1 0\ndone\n",
+            "flow 1 switch 1 epoch 0 rows 2 of 2 bytes 1500 delay saturated\ncolumns 1\n",
+        ),
         // Two hops.
-        (TWO, "packet 1 1500 20 30\nend all\npacket 1 100 5 5\npacket 1 100 5 5\nask 1 1 0\nask 1 2 0\ndone\n", "flow 1 switch 1 epoch 0 rows 2 of 2 bytes 1500 delay 20\nflow 1 switch 2 epoch 0 rows 2 of 2 bytes 1500 delay 30\ncolumns 2\n"),
+        (
+            TWO,
+            "packet 1 1500 20 30\nend all\npacket 1 100 5 5\npacket 1 100 5 5\nask 1 1 0\nask 1 2 0\ndone\n",
+            "flow 1 switch 1 epoch 0 rows 2 of 2 bytes 1500 delay 20\nflow 1 switch 2 epoch 0 rows 2 of 2 bytes 1500 delay 30\ncolumns 2\n",
+        ),
         // Two hops, one sketchlet lost.
-        (TWO, "packet 1 1500 20 30\nend all\npacket 1 100 5 5 lost 1\npacket 1 100 5 5\nask 1 1 0\nask 1 2 0\ndone\n", "flow 1 switch 1 epoch 0 rows 0 of 2 bytes unknown delay unknown\nflow 1 switch 2 epoch 0 rows 2 of 2 bytes 1500 delay 30\ncolumns 1\n"),
+        (
+            TWO,
+            "packet 1 1500 20 30\nend all\npacket 1 100 5 5 lost 1\npacket 1 100 5 5\nask 1 1 0\nask 1 2 0\ndone\n",
+            "flow 1 switch 1 epoch 0 rows 0 of 2 bytes unknown delay unknown\nflow 1 switch 2 epoch 0 rows 2 of 2 bytes 1500 delay 30\ncolumns 1\n",
+        ),
         // Twice and late.
-        (FOUR, "packet 1 100 10\npacket 2 50 30\nend 1\npacket 1 10 1 twice\npacket 1 10 1 late\npacket 1 10 1 late\nrelease\nask 1 1 0\nask 2 1 0\nask 3 1 0\ndone\n", "flow 1 switch 1 epoch 0 rows 2 of 2 bytes 100 delay 10\nflow 2 switch 1 epoch 0 rows 2 of 2 bytes 50 delay 30\nflow 3 switch 1 epoch 0 rows 2 of 2 bytes 0 delay 0\ncolumns 2\n"),
+        (
+            FOUR,
+            "packet 1 100 10\npacket 2 50 30\nend 1\npacket 1 10 1 twice\npacket 1 10 1 late\npacket 1 10 1 late\nrelease\nask 1 1 0\nask 2 1 0\nask 3 1 0\ndone\n",
+            "flow 1 switch 1 epoch 0 rows 2 of 2 bytes 100 delay 10\nflow 2 switch 1 epoch 0 rows 2 of 2 bytes 50 delay 30\nflow 3 switch 1 epoch 0 rows 2 of 2 bytes 0 delay 0\ncolumns 2\n",
+        ),
         // Letters have no effect.
-        (ONE, "link 1 xarh\npacket 1 1500 20\nend 1\npacket 1 100 5 burst 4\nask 1 1 0\ndone\n", "flow 1 switch 1 epoch 0 rows 2 of 2 bytes 1500 delay 20\ncolumns 1\n"),
-    ];
-    for (head, rest, output) in cases {
+        (
+            ONE,
+            "link 1 xarh\npacket 1 1500 20\nend 1\npacket 1 100 5 burst 4\nask 1 1 0\ndone\n",
+            "flow 1 switch 1 epoch 0 rows 2 of 2 bytes 1500 delay 20\ncolumns 1\n",
+        ),
+    ] {
         for piece in [1, 7, 4096] {
-            let (status, written) = told(rt.alloc(), "run", [head, rest], piece, [&[], &[]])?;
-            assert_eq!(rt; (status, written.as_slice()), (Status::Ok, output.as_bytes()));
+            let (status, written) = told(
+                rt.alloc(),
+                "run",
+                joined(rt.alloc(), head, rest)?,
+                piece,
+                &[],
+                &[],
+            )?;
+            assert_eq!(rt;
+                (status, written.as_slice()),
+                (Status::Ok, output.as_bytes())
+            );
         }
     }
     Ok(())
@@ -84,41 +159,85 @@ fn reports(rt: HostRuntime) -> Result<(), Fail> {
 
 #[test]
 fn a_switch_that_chooses_by_chance(rt: HostRuntime) -> Result<(), Fail> {
-    let text = "guardian 1\nshape 2 1 ports\npick chance 5\nhost 1\nswitch 1\nflow 1 10.0.0.1 10.0.0.2 6 2 1 host 1 path 1\npacket 1 1500 20\nend 1\npacket 1 100 5\nask 1 1 0\ndone\n";
-    let (status, written) = told(rt.alloc(), "run", [text, ""], 4096, [&[], &[]])?;
+    let text =
+        "guardian 1\nshape 2 1 ports\npick chance 5\nhost 1\nswitch 1\nflow 1 10.0.0.1 10.0.0.2 6 2 1 host 1 path 1\npacket 1 1500 20\nend 1\npacket 1 100 5\nask 1 1 0\ndone\n";
+    let (status, written) = told(
+        rt.alloc(),
+        "run",
+        joined(rt.alloc(), text, "")?,
+        4096,
+        &[],
+        &[],
+    )?;
     assert_eq!(rt; status, Status::Ok);
-    assert_eq!(rt; written.as_slice(), b"flow 1 switch 1 epoch 0 rows 2 of 2 bytes 1500 delay 20\ncolumns 1\n".as_slice());
+    assert_eq!(rt;
+        written.as_slice(),
+        b"flow 1 switch 1 epoch 0 rows 2 of 2 bytes 1500 delay 20\ncolumns 1\n".as_slice()
+    );
     Ok(())
 }
 
 #[test]
 fn sketchlets_at_the_hosts(rt: HostRuntime) -> Result<(), Fail> {
-    let cases = [
-        ("packet 1 1500 20\nend 1\npacket 1 100 5\nask 1 1 0\ndone\n", "host 1 4c47010200010001000000000000000005dc0014000005dc0014\nsketchlets 1\n"),
-        ("packet 1 1500 20\nend 1\nask 1 1 0\ndone\n", "sketchlets 0\n"),
-    ];
-    for (rest, output) in cases {
-        let (status, written) = told(rt.alloc(), "capture", [ONE, rest], 7, [&[], &[]])?;
-        assert_eq!(rt; (status, written.as_slice()), (Status::Ok, output.as_bytes()));
+    for (rest, output) in [
+        (
+            "packet 1 1500 20\nend 1\npacket 1 100 5\nask 1 1 0\ndone\n",
+            "host 1 4c47010200010001000000000000000005dc0014000005dc0014\nsketchlets 1\n",
+        ),
+        (
+            "packet 1 1500 20\nend 1\nask 1 1 0\ndone\n",
+            "sketchlets 0\n",
+        ),
+    ] {
+        let (status, written) = told(
+            rt.alloc(),
+            "capture",
+            joined(rt.alloc(), ONE, rest)?,
+            7,
+            &[],
+            &[],
+        )?;
+        assert_eq!(rt;
+            (status, written.as_slice()),
+            (Status::Ok, output.as_bytes())
+        );
     }
     Ok(())
 }
 
 #[test]
 fn refused_texts(rt: HostRuntime) -> Result<(), Fail> {
-    let cases = [
+    for (text, line) in [
         ("guardian 1\n", "guardian: scenario line 2: no done\n"),
         ("guardian 1", "guardian: scenario line 1: no done\n"),
-        ("guardian 1\nshape 2 4097 ports\npick turns\nhost 1\nswitch 1\nflow 1 10.0.0.1 10.0.0.2 6 2 1 host 1 path 1\npacket 1 1500 20\nend 1\npacket 1 100 5\nask 1 1 0\ndone\n", "guardian: scenario line 2: bad number\n"),
-        ("guardian 1\nshape 2 1 ports\npick turns\nhost 1\nswitch 1\nflow 1 10.0.0.1 10.0.0.2 6 2 1 host 1 path 1\npacket 1 1500 20\nend 1\npacket 1 100 5\nask 1 2 0\ndone\n", "guardian: scenario line 10: unknown name\n"),
-        ("guardian 1\nshape 2 1 ports\npick turns\nhost 1\nswitch 1\nflow 1 10.0.0.1 10.0.0.2 6 2 1 host 1 path 1 1\npacket 1 1500 20\nend 1\npacket 1 100 5\nask 1 1 0\ndone\n", "guardian: scenario line 6: repeated\n"),
+        (
+            "guardian 1\nshape 2 4097 ports\npick turns\nhost 1\nswitch 1\nflow 1 10.0.0.1 10.0.0.2 6 2 1 host 1 path 1\npacket 1 1500 20\nend 1\npacket 1 100 5\nask 1 1 0\ndone\n",
+            "guardian: scenario line 2: bad number\n",
+        ),
+        (
+            "guardian 1\nshape 2 1 ports\npick turns\nhost 1\nswitch 1\nflow 1 10.0.0.1 10.0.0.2 6 2 1 host 1 path 1\npacket 1 1500 20\nend 1\npacket 1 100 5\nask 1 2 0\ndone\n",
+            "guardian: scenario line 10: unknown name\n",
+        ),
+        (
+            "guardian 1\nshape 2 1 ports\npick turns\nhost 1\nswitch 1\nflow 1 10.0.0.1 10.0.0.2 6 2 1 host 1 path 1 1\npacket 1 1500 20\nend 1\npacket 1 100 5\nask 1 1 0\ndone\n",
+            "guardian: scenario line 6: repeated\n",
+        ),
         ("", "guardian: scenario line 1: no done\n"),
-    ];
-    for (text, line) in cases {
+    ] {
         for word in ["run", "capture"] {
             for piece in [1, 7, 4096] {
-                let (status, written) = told(rt.alloc(), word, [text, ""], piece, [&[], &[]])?;
-                assert_eq!(rt; (status, written.as_slice()), (Status::BadScenario, line.as_bytes()));
+                let (status, written) = told(
+                    rt.alloc(),
+                    word,
+                    joined(rt.alloc(), text, "")?,
+                    piece,
+                    &[],
+                    &[],
+                )?;
+                assert_eq!(rt;
+                    (status, written.as_slice()),
+                    (Status::BadScenario, line.as_bytes())
+                );
             }
         }
     }
@@ -130,20 +249,32 @@ fn words_that_are_no_command(rt: HostRuntime) -> Result<(), Fail> {
     let alloc = rt.alloc();
     let usage = b"guardian: usage: guardian run, ask, list, rebuild S E, capture, make N, demo N\n";
     for word in ["runs", "", "make 0", "run x", "rebuild 1"] {
-        let (status, written) = told(alloc, word, [ONE, "done\n"], 7, [&[], &[]])?;
-        assert_eq!(rt; (status, written.as_slice()), (Status::BadWords, usage.as_slice()));
+        let (status, written) = told(alloc, word, joined(alloc, ONE, "done\n")?, 7, &[], &[])?;
+        assert_eq!(rt;
+            (status, written.as_slice()),
+            (Status::BadWords, usage.as_slice())
+        );
     }
     let mut source = MemorySource::new(Vec::new(alloc), 1, Vec::new(alloc));
     let mut sink = MemorySink::new(alloc, 1, Vec::new(alloc));
     let none: [String; 0] = [];
-    assert_eq!(rt; guardian(alloc, &none, &mut source, &mut sink), Status::BadWords);
+    assert_eq!(rt;
+        guardian(alloc, &none, &mut source, &mut sink),
+        Status::BadWords
+    );
     let two = [
         String::from_str(alloc, "run")?,
         String::from_str(alloc, "x")?,
     ];
-    assert_eq!(rt; guardian(alloc, &two, &mut source, &mut sink), Status::BadWords);
+    assert_eq!(rt;
+        guardian(alloc, &two, &mut source, &mut sink),
+        Status::BadWords
+    );
     let run = [String::from_str(alloc, "run")?];
-    assert_eq!(rt; guardian_read(alloc, &run, &mut source, &mut sink), Status::BadWords);
+    assert_eq!(rt;
+        guardian_read(alloc, &run, &mut source, &mut sink),
+        Status::BadWords
+    );
     Ok(())
 }
 
@@ -151,12 +282,21 @@ fn words_that_are_no_command(rt: HostRuntime) -> Result<(), Fail> {
 fn streams_that_fail(rt: HostRuntime) -> Result<(), Fail> {
     let alloc = rt.alloc();
     let rest = "packet 1 1500 20\nend 1\npacket 1 100 5\nask 1 1 0\ndone\n";
-    let (status, written) = told(alloc, "run", [ONE, rest], 7, [&[3], &[]])?;
-    assert_eq!(rt; (status, written.as_slice()), (Status::ReadFault, b"guardian: read fault\n".as_slice()));
-    let (status, written) = told(alloc, "run", [ONE, rest], 7, [&[], &[1]])?;
-    assert_eq!(rt; (status, written.as_slice()), (Status::WriteFault, b"flow 1 ".as_slice()));
-    let (status, written) = told(alloc, "runs", [ONE, rest], 7, [&[], &[1]])?;
-    assert_eq!(rt; (status, written.as_slice()), (Status::BadWords, b"guardia".as_slice()));
+    let (status, written) = told(alloc, "run", joined(alloc, ONE, rest)?, 7, &[3], &[])?;
+    assert_eq!(rt;
+        (status, written.as_slice()),
+        (Status::ReadFault, b"guardian: read fault\n".as_slice())
+    );
+    let (status, written) = told(alloc, "run", joined(alloc, ONE, rest)?, 7, &[], &[1])?;
+    assert_eq!(rt;
+        (status, written.as_slice()),
+        (Status::WriteFault, b"flow 1 ".as_slice())
+    );
+    let (status, written) = told(alloc, "runs", joined(alloc, ONE, rest)?, 7, &[], &[1])?;
+    assert_eq!(rt;
+        (status, written.as_slice()),
+        (Status::BadWords, b"guardia".as_slice())
+    );
     Ok(())
 }
 
