@@ -8,15 +8,15 @@ use std::alloc::Global;
 use std::process::Abort;
 use std::test::Fail;
 
-// Packets of an epoch whose sizes have a sum below the last of its type, and behind the epoch a packet that carries it.
+// A burst whose bytes sum to less than a counter's last value, and behind the end a packet that carries the column.
 const BURST: &str =
     "guardian 1\nshape 2 1 ports\npick turns\nhost 1\nswitch 1\nflow 1 10.0.0.1 10.0.0.2 6 2 1 host 1 path 1\npacket 1 65535 20 burst 65536\nend 1\npacket 1 100 5\ndone\n";
 
-// The same with one packet more, at which the sum is the last of its type.
+// The same with one packet more, whose bytes sum to exactly the last value.
 const FULL_BURST: &str =
     "guardian 1\nshape 2 1 ports\npick turns\nhost 1\nswitch 1\nflow 1 10.0.0.1 10.0.0.2 6 2 1 host 1 path 1\npacket 1 65535 20 burst 65537\nend 1\npacket 1 100 5\ndone\n";
 
-// The same with two packets more, at which the sum stands still.
+// The same with two packets more, so that the counter stops at its last value.
 const LONG_BURST: &str =
     "guardian 1\nshape 2 1 ports\npick turns\nhost 1\nswitch 1\nflow 1 10.0.0.1 10.0.0.2 6 2 1 host 1 path 1\npacket 1 65535 20 burst 65538\nend 1\npacket 1 100 5\ndone\n";
 
@@ -28,7 +28,7 @@ const TWO_HOPS: &str =
 const LOST: &str =
     "guardian 1\nshape 2 1 ports\npick turns\nhost 1\nswitch 1\nswitch 2\nflow 1 10.0.0.1 10.0.0.2 6 2 1 host 1 path 1 2\npacket 1 1500 20 30\nend all\npacket 1 100 5 5 lost 1\npacket 1 100 5 5\ndone\n";
 
-// Packets to two hosts that arrive twice, at a release and at the end of the scenario.
+// Packets to two hosts: one arrives twice, one at once, and late ones at a release and at the end of the scenario.
 const TWO_HOSTS: &str =
     "guardian 1\nshape 1 2 ports\npick turns\nhost 7\nhost 3\nswitch 5\nflow 1 10.0.0.1 10.0.0.2 6 2 1 host 7 path 5\nflow 2 10.0.0.1 10.0.0.2 6 3 1 host 3 path 5\npacket 1 100 10\npacket 2 50 30\nend 5\npacket 1 10 1 twice\npacket 1 10 1 late\npacket 1 10 1 late\npacket 2 10 1\nrelease\npacket 2 10 1 late\ndone\n";
 
@@ -36,7 +36,7 @@ const TWO_HOSTS: &str =
 const TWO_COLUMNS: &str =
     "guardian 1\nshape 2 2 ports\npick turns\nhost 1\nswitch 1\nswitch 2\nflow 1 10.0.0.1 10.0.0.2 6 2 1 host 1 path 1 2\npacket 1 1500 20 30\nend all\npacket 1 100 5 5\npacket 1 100 5 5\ndone\n";
 
-// Three switches, of which each ends as many epochs as no other.
+// Three switches that end different numbers of epochs.
 const OWN_ENDS: &str =
     "guardian 1\nshape 1 1 ports\npick turns\nhost 1\nswitch 9\nswitch 4\nswitch 6\nend 4\nend all\nend 4\nend 9\nend 4\ndone\n";
 
@@ -153,7 +153,7 @@ fn networks_with_their_own_pickers(rt: HostRuntime) -> Result<(), Fail> {
     Ok(())
 }
 
-// An index past the width stands for the first, and a used-up script gives the first.
+// The second switch's answer is past the width, so it is replaced by index 0, as a used-up script's is.
 #[test]
 fn a_script_for_each_switch(rt: HostRuntime) -> Result<(), Fail> {
     let scenario = scenario(rt.alloc(), TWO_COLUMNS)?;
