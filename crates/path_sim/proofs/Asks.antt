@@ -1,5 +1,5 @@
 -- One ask.
-use Rattle.std.specs.Prelude.{◌≡◌, ℕ, ◌+◌, ◌-◌, ◌<◌, ◌≤◌, Bool, true, false, List, [], ◌∷◌, ◌++◌, map, length, slice_index, slice_index_or, slice_set, Option, Some, None, nat_lt, ◌&&◌, ◌==◌, All, ◌⊎◌, count_by}
+use Rattle.std.specs.Prelude.{◌≡◌, ℕ, ◌+◌, ◌-◌, ◌<◌, ◌≤◌, Bool, true, false, List, [], ◌∷◌, ◌++◌, length, slice_index, slice_index_or, slice_set, Option, Some, None, nat_lt, ◌&&◌, ◌==◌, All}
 use Rattle.std.proofs.Common.{refl, sym, ap, ◌∙◌, subst, arith, rules, tests, inl, inr}
 use Rattle.std.specs.List.{find}
 use Rattle.std.specs.Option.{option_map, is_some}
@@ -7,12 +7,10 @@ use Rattle.std.proofs.lemmas.List.Elements.{All-push, All-weaker}
 use Rattle.std.proofs.lemmas.List.Folds.{list_any_none}
 use Rattle.std.proofs.lemmas.List.Sums.{count_by-le-length}
 use Rattle.std.proofs.lemmas.Bool.Decides.{eqb_tells}
-use Rattle.std.proofs.lemmas.List.{map-append, length-map, get_or_default}
+use Rattle.std.proofs.lemmas.List.{map-append, length-map}
 use Rattle.std.proofs.lemmas.Bool.{false≢true}
 use Rattle.lg_model.specs.declared.column.Bucket.{Bucket}
-use Rattle.lg_model.specs.declared.column.Key.{Key}
 use Rattle.lg_model.specs.declared.column.Dims.{Dims}
-use Rattle.lg_model.specs.Placing.{Shape}
 use Rattle.lg_model.specs.Scenario.{Scenario, ended}
 use Rattle.lg_model.specs.Sketch.{column_at}
 use Rattle.lg_model.specs.Trace.{Meeting, ended_before, observation}

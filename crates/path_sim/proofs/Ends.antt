@@ -1,24 +1,20 @@
 -- The beginning and the end of a run.
-use Rattle.std.specs.Prelude.{◌≡◌, ℕ, ◌<◌, ◌≤◌, List, [], ◌∷◌, ◌++◌, length, take, reverse, replicate, slice_index_or, All}
+use Rattle.std.specs.Prelude.{◌≡◌, ℕ, ◌<◌, List, [], ◌++◌, length, reverse, replicate, slice_index_or, All}
 use Rattle.std.specs.List.{flat_map, enumerate_from}
 use Rattle.std.proofs.Common.{refl, sym, ap, ◌∙◌, subst, arith, take_all}
 use Rattle.std.proofs.lemmas.List.{length-replicate, get_or-replicate}
 use Rattle.std.proofs.lemmas.List.Elements.{All-nil, All-replicate}
 use Rattle.lg_model.specs.Scenario.{Scenario}
-use Rattle.lg_model.specs.Trace.{packets, packets_of, packets_until, meetings, meetings_in, Packet}
+use Rattle.lg_model.specs.Trace.{packets, packets_of, packets_until, meetings_in, Packet}
 use Rattle.lg_model.specs.Matching.{Matched}
-use Rattle.lg_model.specs.Carrying as model
-use Rattle.lg_model.specs.Carrying.{IsAllowed}
-use Rattle.lg_model.specs.Asking.{Picks, IsPick, Asking, asking}
+use Rattle.lg_model.specs.Asking.{Picks, IsPick, asking}
 use Rattle.lg_model.specs.Runs.{Runs}
 use Rattle.lg_model.specs.Twin.{Twin, AreTwins, new_twin}
-use Rattle.lg_model.specs.Arriving.{Column, packets_to, arrivals, arrivals_at, arrivals_until, held, deliveries, for_host, arrived_to, held_to, AreDelivered}
+use Rattle.lg_model.specs.Arriving.{Column, packets_to, arrivals, arrivals_at, arrivals_until, held, deliveries, arrived_to, held_to, AreDelivered}
 use Rattle.lg_model.proofs.Twinning.{twins_start}
 use Rattle.lg_model.proofs.Arrivals.{arrived_start, held_start, deliveries_append, deliveries_reverse}
 use Rattle.lg_model.proofs.Allowing.{allowed}
 use Rattle.sketchlet_wire.specs.declared.packed.Packed.{Packed}
-use Rattle.path_sim.specs.declared.carry.Carry.{Carry}
-use Rattle.path_sim.specs.declared.inbox.Held.{Held}
 use Rattle.path_sim.specs.declared.traffic.Traffic.{Traffic}
 use Rattle.path_sim.specs.Parts.{carried_are, IsBefore, IsNamed, IsOf}
 use Rattle.path_sim.specs.Holding.{AreHeld, IsInside}

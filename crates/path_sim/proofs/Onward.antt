@@ -1,6 +1,6 @@
 -- One packet more.
-use Rattle.std.specs.Prelude.{◌≡◌, ℕ, ◌+◌, ◌<◌, ◌≤◌, Bool, cond, List, [], ◌∷◌, ◌++◌, length, take, drop, All, Option, Result, Ok, Err, IfOk}
-use Rattle.std.proofs.Common.{refl, sym, ap, ◌∙◌, subst, arith}
+use Rattle.std.specs.Prelude.{◌≡◌, ℕ, ◌+◌, ◌<◌, ◌≤◌, cond, List, [], ◌∷◌, ◌++◌, length, take, drop, All, Option, Result, Ok, Err, IfOk}
+use Rattle.std.proofs.Common.{sym, ap, ◌∙◌, subst}
 use Rattle.lg_model.specs.declared.scenario.Fate.{Fate}
 use Rattle.lg_model.specs.Scenario.{Scenario}
 use Rattle.lg_model.specs.Trace.{packets, packets_until, meetings_in}
@@ -11,7 +11,6 @@ use Rattle.lg_model.specs.Twin.{Twin, AreTwins}
 use Rattle.lg_model.specs.Arriving.{Column, packets_to, packet_at, arrives, is_late, deliveries, arrived_to, held_to, AreDelivered}
 use Rattle.lg_model.proofs.Arrivals.{deliveries_stay, arrived_more, held_one_more, arrived_below, held_to_below}
 use Rattle.sketchlet_wire.specs.declared.packed.Packed.{Packed}
-use Rattle.path_sim.specs.declared.carry.Carry.{Carry}
 use Rattle.path_sim.specs.declared.inbox.Held.{Held}
 use Rattle.path_sim.specs.declared.traffic.Traffic.{Traffic}
 use Rattle.path_sim.specs.Parts.{carried_are, IsBefore, IsNamed, IsOf, IsCargo}

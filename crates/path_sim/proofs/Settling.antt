@@ -1,12 +1,12 @@
 -- What becomes of a packet behind its last hop.
-use Rattle.std.specs.Prelude.{◌≡◌, ℕ, ◌<◌, Bool, true, false, cond, List, [], ◌∷◌, ◌++◌, length, reverse, slice_set, slice_index_or, Option, Some, None, All}
+use Rattle.std.specs.Prelude.{◌≡◌, ℕ, ◌<◌, cond, List, [], ◌∷◌, ◌++◌, length, reverse, slice_set, slice_index_or, Option, Some, None, All}
 use Rattle.std.specs.Option.{option_map}
 use Rattle.std.proofs.Common.{refl, sym, ap, ◌∙◌, subst, arith, append-nil, append_assoc}
 use Rattle.std.proofs.lemmas.List.{get_or_default, get_or_append_left, length_push, reverse-append}
 use Rattle.lg_model.specs.declared.scenario.Fate.{Fate}
 use Rattle.lg_model.specs.declared.scenario.Fate.TheVariants.{Straight, Lost, Twice, Late}
 use Rattle.lg_model.specs.Scenario.{Scenario}
-use Rattle.lg_model.specs.Matching.{Matched, MatchedOption}
+use Rattle.lg_model.specs.Matching.{MatchedOption}
 use Rattle.lg_model.specs.Carrying as model
 use Rattle.lg_model.specs.Arriving.{Column, packet_at, arrives, is_late, cargo, brings, deliveries, AreDelivered}
 use Rattle.lg_model.proofs.Arrivals.{deliver_one, deliveries_append}

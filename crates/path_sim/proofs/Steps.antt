@@ -1,25 +1,21 @@
 -- The packets of a step, and what stands after it.
-use Rattle.std.specs.Prelude.{◌≡◌, ℕ, ◌+◌, ◌-◌, ◌<◌, ◌≤◌, Bool, true, false, cond, List, [], ◌∷◌, ◌++◌, map, take, drop, length, reverse, replicate, slice_set, slice_index_or, All, count_by}
+use Rattle.std.specs.Prelude.{◌≡◌, ℕ, ◌+◌, ◌<◌, ◌≤◌, true, false, cond, List, [], ◌++◌, map, take, length, reverse, replicate, slice_set, slice_index_or, count_by}
 use Rattle.std.specs.List.{flat_map, enumerate_from}
 use Rattle.std.proofs.Common.{refl, sym, ap, ◌∙◌, subst, arith, append-nil, take_all}
 use Rattle.std.proofs.Math.Seq.{take-append_seam}
-use Rattle.std.proofs.lemmas.List.{get_or_append_left, get_or-append-add, get_or-replicate, length-replicate, length-append, length-take, get_or_default}
+use Rattle.std.proofs.lemmas.List.{get_or_append_left, get_or-append-add, get_or-replicate, length-replicate, length-append, get_or_default}
 use Rattle.std.proofs.lemmas.List.Elements.{All-get_or, All-nil}
-use Rattle.std.proofs.lemmas.List.Sums.{count_by-le-length}
 use Rattle.lg_model.specs.declared.scenario.Fate.{Fate}
-use Rattle.lg_model.specs.declared.scenario.Flow.{Flow}
 use Rattle.lg_model.specs.declared.scenario.Step.{Step}
 use Rattle.lg_model.specs.declared.scenario.Step.TheVariants as steps
-use Rattle.lg_model.specs.Scenario.{Scenario, IsScenario, IsStep, IsFlow, flow_at, no_flow, is_end_of, ended, reached, packet_count}
+use Rattle.lg_model.specs.Scenario.{Scenario, IsScenario, IsStep, IsFlow, flow_at, no_flow, is_end_of, ended}
 use Rattle.lg_model.specs.Trace.{Packet, packets, packet_of, packets_of, packets_until, meetings_in}
-use Rattle.lg_model.specs.Twin.{Twin, AreTwins, with_end, new_twin}
+use Rattle.lg_model.specs.Twin.{Twin, AreTwins, with_end}
 use Rattle.lg_model.specs.Arriving.{Column, packets_to, packet_at, no_packet, is_release, held, deliveries, arrivals_until, arrived_to, held_to, AreDelivered}
 use Rattle.lg_model.proofs.Tracing.{packets_split, packets_from, packets_more, ended_more, ended_rises, length_packets}
 use Rattle.lg_model.proofs.Twinning.{twins_stay, twins_end, twins_end_all}
 use Rattle.lg_model.proofs.Arrivals.{arrived_start, arrived_end, held_start, held_end, arrivals_released, held_released, deliveries_append, deliveries_reverse}
 use Rattle.sketchlet_wire.specs.declared.packed.Packed.{Packed}
-use Rattle.path_sim.specs.declared.carry.Carry.{Carry}
-use Rattle.path_sim.specs.declared.inbox.Held.{Held}
 use Rattle.path_sim.specs.declared.traffic.Traffic.{Traffic}
 use Rattle.path_sim.specs.Parts.{carried_are, step_in, IsOf}
 use Rattle.path_sim.specs.Holding.{AreHeld, IsInside}

@@ -1,13 +1,10 @@
 -- What the network handles, as the definitions speak of it.
-use Rattle.std.specs.Prelude.{◌≡◌, ℕ, ◌+◌, ◌<◌, ◌≤◌, List, [], ◌++◌, map, take, length, slice_index, slice_index_or, Bool, true, false, cond, All, Option, None, Some, if◌then◌else◌}
-use Rattle.lg_model.specs.declared.scenario.Flow.{Flow}
-use Rattle.lg_model.specs.declared.scenario.Fate.{Fate}
+use Rattle.std.specs.Prelude.{◌≡◌, ℕ, ◌<◌, List, ◌++◌, map, take, slice_index, slice_index_or, Option, None, Some}
 use Rattle.lg_model.specs.declared.scenario.Step.{Step}
 use Rattle.lg_model.specs.declared.scenario.Step.TheVariants as steps
-use Rattle.lg_model.specs.Placing.{Shape}
 use Rattle.lg_model.specs.Scenario.{Scenario}
 use Rattle.lg_model.specs.Matching.{MatchedOption}
-use Rattle.lg_model.specs.Trace.{Packet, Meeting, meetings_in, meetings_of}
+use Rattle.lg_model.specs.Trace.{Meeting, meetings_in, meetings_of}
 use Rattle.lg_model.specs.Carrying as model
 use Rattle.lg_model.specs.Arriving.{Column, packets_to, packet_at, cargo}
 use Rattle.sketchlet_wire.specs.declared.packed.Packed.{Packed}

@@ -17,6 +17,8 @@ mod own;
 mod packed;
 mod sending;
 mod stepping;
+#[cfg(test)]
+mod tests;
 mod traffic;
 
 pub use arrivals::{Arrivals, run_net};

@@ -1,6 +1,5 @@
-use Rattle.std.proofs.Common.{◌≡◌, ◌≤◌, ◌∙◌, ℕ, refl, ap, sym, arith, length, replicate, List, []}
-use Rattle.lg_model.specs.Twin.{Twin, new_twin}
-use Rattle.sketchlet_wire.specs.declared.packed.Packed.{Packed}
+use Rattle.std.proofs.Common.{◌≡◌, ◌∙◌, ℕ, refl, ap, arith, length, replicate, []}
+use Rattle.lg_model.specs.Twin.{new_twin}
 use Rattle.path_sim.proofs.Ends.{started}
 use Rattle.path_sim.proofs.arrivals.begin.Goals as goal
 

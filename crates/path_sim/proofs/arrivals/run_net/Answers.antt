@@ -1,4 +1,4 @@
-use Rattle.std.proofs.Common.{◌≡◌, ◌∙◌, ap, sym, subst, ℕ, length, List}
+use Rattle.std.proofs.Common.{◌≡◌, ◌∙◌, ap, sym, subst, length, List}
 use Rattle.lg_model.specs.Arriving.{AreDelivered}
 use Rattle.sketchlet_wire.specs.declared.packed.Packed.{Packed}
 use Rattle.path_sim.specs.Parts.{IsOf}

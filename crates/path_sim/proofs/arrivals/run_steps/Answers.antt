@@ -1,4 +1,4 @@
-use Rattle.std.proofs.Common.{◌≡◌, ◌≤◌, ◌∙◌, ℕ, ap, arith, length}
+use Rattle.std.proofs.Common.{◌≡◌, ap, arith, length}
 use Rattle.path_sim.proofs.Ends.{ended_all}
 use Rattle.path_sim.proofs.arrivals.run_steps.Goals as goal
 

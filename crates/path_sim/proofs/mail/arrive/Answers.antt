@@ -1,4 +1,4 @@
-use Rattle.std.proofs.Common.{◌≡◌, ℕ, ◌<◌, ◌++◌, ◌∷◌, [], List, length, IfOk, Ok, Err, slice_set, slice_index_or}
+use Rattle.std.proofs.Common.{◌≡◌, ℕ, ◌++◌, ◌∷◌, [], List, IfOk, Ok, Err, slice_set, slice_index_or}
 use Rattle.lg_model.specs.Scenario.{Scenario}
 use Rattle.lg_model.specs.Arriving.{Column, AreDelivered}
 use Rattle.sketchlet_wire.specs.declared.packed.Packed.{Packed}

@@ -1,5 +1,5 @@
-use Rattle.std.proofs.Common.{◌≡◌, ℕ, ◌<◌, ◌++◌, ◌∷◌, [], List, length, rules}
-use Rattle.path_sim.proofs.Settling.{released_one, released_all, released_start, inside_front}
+use Rattle.std.proofs.Common.{◌≡◌, [], length, rules}
+use Rattle.path_sim.proofs.Settling.{released_one, released_all, inside_front}
 use Rattle.path_sim.proofs.mail.release.Goals as goal
 
 pub loop-item-preserved : goal.loop-item-preserved

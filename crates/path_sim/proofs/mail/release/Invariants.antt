@@ -1,4 +1,4 @@
-use Rattle.std.specs.Prelude.{◌≡◌, ℕ, ◌++◌, List, length, reverse, All}
+use Rattle.std.specs.Prelude.{ℕ, List, length, All}
 use Rattle.lg_model.specs.Scenario.{Scenario}
 use Rattle.lg_model.specs.Arriving.{Column, AreDelivered}
 use Rattle.path_sim.specs.Parts.{IsOf}

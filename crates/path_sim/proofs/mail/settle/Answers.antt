@@ -1,14 +1,11 @@
-use Rattle.std.proofs.Common.{◌≡◌, ℕ, ◌<◌, ◌++◌, ◌∷◌, [], List, length, IfOk, Ok, Err, cond, Some, None, Option, subst, sym, ap, rules}
+use Rattle.std.proofs.Common.{ℕ, ◌++◌, ◌∷◌, [], List, cond, subst, sym}
 use Rattle.std.proofs.lemmas.Result.{IfOk-weaker}
 use Rattle.lg_model.specs.declared.scenario.Fate.{Fate}
-use Rattle.lg_model.specs.Scenario.{Scenario}
-use Rattle.lg_model.specs.Carrying as model
 use Rattle.lg_model.specs.Arriving.{Column, AreDelivered, arrives, deliveries, is_late}
-use Rattle.sketchlet_wire.specs.declared.packed.Packed.{Packed}
 use Rattle.path_sim.specs.declared.inbox.Held.{Held}
 use Rattle.path_sim.specs.Parts.{IsOf, IsCargo}
 use Rattle.path_sim.specs.Holding.{AreHeld}
-use Rattle.path_sim.proofs.Settling.{nothing_arrives, nothing_held, brings_none, one_arrives, two_arrive, same_arrive, same_held, one_held}
+use Rattle.path_sim.proofs.Settling.{nothing_arrives, nothing_held, brings_none, one_arrives, two_arrive, one_held}
 use Rattle.path_sim.proofs.mail.settle.Goals as goal
 
 pub returns-in_default-clause-arrived : goal.returns-in_default-clause-arrived

@@ -1,14 +1,12 @@
-use Rattle.std.proofs.Common.{slice_index_or, rules, ◌≡◌, ◌<◌, ◌≤◌, ◌+◌, ◌-◌, ◌∙◌, Some, None, refl, sym, ap, subst, false, true, length, ℕ, arith, ◌++◌, ◌∷◌, []}
+use Rattle.std.proofs.Common.{slice_index_or, ◌≡◌, ◌<◌, ◌∙◌, Some, None, refl, sym, ap, subst, ◌++◌, ◌∷◌, []}
 use Rattle.std.proofs.lemmas.Bool.{false≢true}
 use Rattle.std.proofs.lemmas.List.Elements.{All-push}
 use Rattle.std.proofs.lemmas.Option.{slice_get-get_or}
-use Rattle.lg_model.specs.declared.column.Dims.{Dims}
 use Rattle.lg_model.specs.Placing.{Shape}
-use Rattle.lg_model.specs.Scenario.{ended}
 use Rattle.lg_model.specs.Trace.{ended_before}
-use Rattle.lg_model.specs.Carrying.{Offer, carry_at, offer_at, hops_left, is_ask}
-use Rattle.lg_model.specs.Asking.{IsPick, IsLawful, asking}
-use Rattle.lg_model.specs.Twin.{Twin, AreTwins, IsTwin}
+use Rattle.lg_model.specs.Carrying.{Offer, carry_at, hops_left}
+use Rattle.lg_model.specs.Asking.{IsLawful}
+use Rattle.lg_model.specs.Twin.{Twin, IsTwin}
 use Rattle.sketchlet_wire.specs.Carried.{dims_of}
 use Rattle.path_sim.specs.Parts.{meeting_is, carried_are, meetings_to, IsNamed}
 use Rattle.path_sim.proofs.Asks.{offer_is, carried_push, put_all, ask_yes, no_cargo, new_cargo}

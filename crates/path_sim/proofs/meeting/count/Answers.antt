@@ -1,5 +1,5 @@
-use Rattle.std.proofs.Common.{◌≡◌, ◌<◌, ◌≤◌, ◌∙◌, ap, sym, subst, arith, length, slice_set, slice_index_or, ℕ, List}
-use Rattle.std.specs.Prelude.{slice_index, All}
+use Rattle.std.proofs.Common.{◌≡◌, ◌<◌, ◌∙◌, ap, sym, arith, slice_set, slice_index_or}
+use Rattle.std.specs.Prelude.{slice_index}
 use Rattle.lg_model.specs.Placing.{Shape, places_of}
 use Rattle.lg_model.specs.Sketch.{raise}
 use Rattle.lg_model.specs.Trace.{observation}

@@ -1,9 +1,8 @@
-use Rattle.std.proofs.Common.{◌≡◌, ◌<◌, ◌≤◌, ◌-◌, ◌∙◌, sym, ap, subst, arith, ℕ, rules, length, Some, None}
+use Rattle.std.proofs.Common.{◌≡◌, ◌<◌, ◌-◌, ◌∙◌, sym, arith, rules, length}
 use Rattle.lg_model.specs.Scenario.{ended}
 use Rattle.lg_model.specs.Trace.{ended_before}
-use Rattle.lg_model.specs.Asking.{IsPick, asking}
-use Rattle.lg_model.specs.Twin.{Twin, AreTwins, IsTwin, new_twin}
-use Rattle.path_sim.specs.Parts.{meeting_is, carried_are, meetings_to, IsCargo}
+use Rattle.lg_model.specs.Twin.{new_twin}
+use Rattle.path_sim.specs.Parts.{meeting_is, carried_are, meetings_to}
 use Rattle.path_sim.proofs.Asks.{seen_all, pick_none, ask_early, ask_no, in_hand_if, empty_hand_if}
 use Rattle.path_sim.proofs.meeting.meet.Goals as goal
 

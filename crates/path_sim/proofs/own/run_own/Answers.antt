@@ -1,12 +1,7 @@
-use Rattle.std.proofs.Common.{◌≡◌, ◌∙◌, sym, ap, subst, List, IfOk, []}
+use Rattle.std.proofs.Common.{◌∙◌}
 use Rattle.std.proofs.lemmas.Result.{IfOk-weaker}
-use Rattle.lg_model.specs.Carrying as model
 use Rattle.lg_model.specs.Carrying.{picked, IsAllowed}
-use Rattle.lg_model.specs.Trace.{meetings}
-use Rattle.lg_model.specs.Asking.{Asking, IsPick, asking}
-use Rattle.lg_model.specs.Runs.{Runs}
-use Rattle.column_pick.specs.declared.any_picker.AnyPicker.{AnyPicker}
-use Rattle.column_pick.specs.Picks.{AnyPicks}
+use Rattle.lg_model.specs.Asking.{asking}
 use Rattle.path_sim.specs.Outcome.{Outcome}
 use Rattle.path_sim.specs.Parts.{carried_are}
 use Rattle.path_sim.specs.Arrived.{HaveArrived}

@@ -1,13 +1,13 @@
-use Rattle.std.proofs.Common.{◌≡◌, ◌<◌, ◌≤◌, ◌+◌, ◌-◌, ◌∙◌, sym, ap, subst, arith, ℕ, rules, List, refl, length, None}
+use Rattle.std.proofs.Common.{◌≡◌, ◌<◌, ◌≤◌, ◌+◌, ◌-◌, ◌∙◌, sym, ap, subst, arith, ℕ, List, refl, length, None}
 use Rattle.std.specs.Prelude.{slice_index, ◌++◌, ◌∷◌, []}
-use Rattle.lg_model.specs.Trace.{Packet, Meeting, reach, meeting_of, meetings_in, meetings_of}
-use Rattle.lg_model.specs.Arriving.{packets_to, packet_at}
+use Rattle.lg_model.specs.Trace.{Packet, Meeting, reach, meeting_of, meetings_of}
+use Rattle.lg_model.specs.Arriving.{packet_at}
 use Rattle.lg_model.specs.Asking.{IsPick, asking}
 use Rattle.lg_model.specs.Runs.{Runs}
-use Rattle.lg_model.specs.Twin.{Twin, AreTwins}
+use Rattle.lg_model.specs.Twin.{AreTwins}
 use Rattle.lg_model.proofs.Cargo.{adds_none, adds_one, adds_both}
 use Rattle.lg_model.proofs.Running.{runs_more}
-use Rattle.path_sim.specs.Parts.{meeting_is, carried_are, meetings_to}
+use Rattle.path_sim.specs.Parts.{carried_are, meetings_to}
 use Rattle.path_sim.specs.Sending.{packet_is}
 use Rattle.path_sim.proofs.Asks.{none_carried, before_more, pick_before, no_cargo}
 use Rattle.path_sim.proofs.Walking.{meetings_to_start, meetings_to_end, length_meetings, hop_more}

@@ -1,4 +1,4 @@
-use Rattle.std.specs.Prelude.{◌≡◌, ◌+◌}
+use Rattle.std.specs.Prelude.{◌+◌}
 use Rattle.lg_model.specs.Trace.{meetings_in}
 use Rattle.lg_model.specs.Arriving.{packets_to}
 use Rattle.lg_model.specs.Asking.{IsPick, asking}

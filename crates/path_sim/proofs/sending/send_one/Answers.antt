@@ -1,4 +1,4 @@
-use Rattle.std.proofs.Common.{◌≡◌, ◌≤◌, ◌<◌, ◌∙◌, ap, sym, ℕ, length, arith}
+use Rattle.std.proofs.Common.{◌≡◌, ◌∙◌, ap, sym, ℕ, length}
 use Rattle.std.specs.Prelude.{List, All}
 use Rattle.std.proofs.Common.{subst}
 use Rattle.lg_model.specs.Trace.{Packet}

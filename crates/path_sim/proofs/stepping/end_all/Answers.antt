@@ -1,6 +1,5 @@
-use Rattle.std.proofs.Common.{◌≡◌, ℕ, ◌<◌, ◌≤◌, ◌+◌, ◌∙◌, sym, arith, length, List, map, ext_get_or}
+use Rattle.std.proofs.Common.{◌≡◌, ◌<◌, ◌∙◌, sym, arith, length, map, ext_get_or}
 use Rattle.std.proofs.lemmas.List.{length-map, get_or-map}
-use Rattle.lg_model.specs.Placing.{Shape}
 use Rattle.lg_model.specs.declared.scenario.Hash.TheVariants.{Ports}
 use Rattle.lg_model.specs.Twin.{Twin, with_end, new_twin}
 use Rattle.path_sim.proofs.stepping.end_all.Goals as goal

@@ -1,4 +1,4 @@
-use Rattle.std.specs.Prelude.{◌≡◌, ◌<◌, ◌≤◌, ℕ, length, slice_index_or}
+use Rattle.std.specs.Prelude.{◌≡◌, ◌<◌, ◌≤◌, ℕ, slice_index_or}
 use Rattle.lg_model.specs.Twin.{Twin, with_end}
 use Rattle.path_sim.proofs.stepping.end_all.Given as goal
 

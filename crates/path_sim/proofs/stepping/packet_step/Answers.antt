@@ -1,11 +1,11 @@
-use Rattle.std.proofs.Common.{◌≡◌, ℕ, ◌<◌, ◌≤◌, ◌+◌, ◌∙◌, refl, sym, ap, subst, arith, length, List, IfOk, false}
+use Rattle.std.proofs.Common.{◌≡◌, ℕ, ◌+◌, ◌∙◌, refl, sym, ap, arith, length, List, false}
 use Rattle.std.proofs.lemmas.Result.{IfOk-weaker}
 use Rattle.lg_model.specs.declared.scenario.Flow.{Flow}
 use Rattle.std.specs.Prelude.{slice_index_or}
 use Rattle.std.proofs.lemmas.List.{get_or_default}
 use Rattle.lg_model.specs.declared.scenario.Step.TheVariants as steps
 use Rattle.lg_model.specs.Scenario.{is_end_of, flow_at, no_flow}
-use Rattle.lg_model.specs.Trace.{Packet, packets, packets_until, packet_of, meetings_in}
+use Rattle.lg_model.specs.Trace.{packets_until, meetings_in}
 use Rattle.lg_model.specs.Arriving.{packets_to}
 use Rattle.lg_model.proofs.Twinning.{twins_stay}
 use Rattle.path_sim.specs.Parts.{carried_are, step_in}

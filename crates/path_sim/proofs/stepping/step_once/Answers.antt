@@ -1,8 +1,5 @@
-use Rattle.std.proofs.Common.{◌≡◌, ℕ, ◌<◌, ◌≤◌, ◌+◌, ◌∙◌, refl, sym, ap, subst, arith, length, List, false, true, eq-eqb}
-use Rattle.std.proofs.lemmas.Result.{IfOk-weaker}
-use Rattle.lg_model.specs.declared.scenario.Step.{Step}
+use Rattle.std.proofs.Common.{◌≡◌, ◌<◌, ◌∙◌, refl, sym, ap, subst, arith, length, List, eq-eqb}
 use Rattle.lg_model.specs.declared.scenario.Step.TheVariants as steps
-use Rattle.lg_model.specs.Scenario.{is_end_of}
 use Rattle.lg_model.specs.Arriving.{AreDelivered}
 use Rattle.sketchlet_wire.specs.declared.packed.Packed.{Packed}
 use Rattle.path_sim.specs.Parts.{step_in, IsOf}
