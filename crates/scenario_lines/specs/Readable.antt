@@ -24,6 +24,7 @@ abbrev pub IsHash : Hash → Type 0
 IsHash hashes.Ports = Unit {0}
 IsHash (hashes.Seed n) = n < 2 ^ 64
 
+-- The same of the seed of a pick.
 abbrev pub IsPick : Pick → Type 0
 IsPick picks.Turns = Unit {0}
 IsPick (picks.Chance n) = n < 2 ^ 64
@@ -41,7 +42,7 @@ pub record IsFlowLine (f : Flow) : Type 0 where
 
 -- The size of a packet has 16 bits and each delay 32, and a burst is of at least one packet.
 abbrev pub IsStepLine : Step → Type 0
-IsStepLine (steps.Packet at size delays burst fate) = (size < 65536) × (All (λ d. d < 4294967296) delays) × (1 ≤ burst)
+IsStepLine (steps.Packet _ size delays burst _) = (size < 65536) × (All (λ d. d < 4294967296) delays) × (1 ≤ burst)
 IsStepLine (steps.End at) = Unit {0}
 IsStepLine steps.EndAll = Unit {0}
 IsStepLine steps.Release = Unit {0}
