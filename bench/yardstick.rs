@@ -118,17 +118,30 @@ impl Shape {
 
 // ---- reading -------------------------------------------------------------------------------------------------------
 
-/// The words of a line, from left to right. `None` anywhere is a faulty line.
-struct Words<'a>(std::iter::Peekable<std::slice::Split<'a, u8, fn(&u8) -> bool>>);
+/// The words of a line that are left, `None` behind the last one.
+struct Words<'a>(Option<&'a [u8]>);
 
 impl<'a> Words<'a> {
-    fn of(line: &'a [u8]) -> Self {
-        let is_space: fn(&u8) -> bool = |b| *b == b' ';
-        Words(line.split(is_space).peekable())
+    /// The next word. `None`, here and below, is a faulty line.
+    fn next(&mut self) -> Option<&'a [u8]> {
+        let line = self.0?;
+        let end = line.iter().position(|b| *b == b' ');
+        self.0 = end.map(|end| &line[end + 1..]);
+        Some(&line[..end.unwrap_or(line.len())])
+    }
+
+    /// Takes the next word if it is this one.
+    fn next_if(&mut self, wanted: &[u8]) -> bool {
+        let all = self.0;
+        let fits = self.next() == Some(wanted);
+        if !fits {
+            self.0 = all;
+        }
+        fits
     }
 
     fn number(&mut self, low: u64, most: u64) -> Option<u64> {
-        number(self.0.next()?).filter(|n| (low..=most).contains(n))
+        number(self.next()?).filter(|n| (low..=most).contains(n))
     }
 
     fn name(&mut self) -> Option<u16> {
@@ -136,15 +149,15 @@ impl<'a> Words<'a> {
     }
 
     fn word(&mut self, wanted: &[u8]) -> Option<()> {
-        (self.0.next()? == wanted).then_some(())
+        (self.next()? == wanted).then_some(())
     }
 
-    fn end(&mut self) -> Option<()> {
-        self.0.next().is_none().then_some(())
+    fn end(&self) -> Option<()> {
+        self.0.is_none().then_some(())
     }
 
     fn address(&mut self) -> Option<[u8; 4]> {
-        let mut parts = self.0.next()?.split(|b| *b == b'.');
+        let mut parts = self.next()?.split(|b| *b == b'.');
         let mut address = [0; 4];
         for byte in &mut address {
             *byte = u8::try_from(number(parts.next()?)?).ok()?;
@@ -175,19 +188,19 @@ fn number(word: &[u8]) -> Option<u64> {
 
 impl Scenario {
     fn head(shape: &[u8], pick: &[u8]) -> Option<Self> {
-        let mut words = Words::of(shape);
+        let mut words = Words(Some(shape));
         words.word(b"shape")?;
         let rows = words.number(1, 8)? as usize;
         let width = words.number(1, 4096)? as usize;
-        let hash = match words.0.next()? {
+        let hash = match words.next()? {
             b"ports" => Hash::Ports,
             b"seed" => Hash::Seed(words.number(0, u64::MAX)?),
             _ => return None,
         };
         words.end()?;
-        let mut words = Words::of(pick);
+        let mut words = Words(Some(pick));
         words.word(b"pick")?;
-        let pick = match words.0.next()? {
+        let pick = match words.next()? {
             b"turns" => Pick::Turns,
             b"chance" => Pick::Chance(words.number(0, u64::MAX)?),
             _ => return None,
@@ -210,8 +223,8 @@ impl Scenario {
 
     /// Takes one more line; says whether it is `done`.
     fn line(&mut self, line: &[u8]) -> Option<bool> {
-        let mut words = Words::of(line);
-        let first = words.0.next()?;
+        let mut words = Words(Some(line));
+        let first = words.next()?;
         let declares = matches!(first, b"host" | b"switch" | b"flow" | b"link");
         if declares && !(self.steps.is_empty() && self.asks.is_empty()) {
             return None;
@@ -243,7 +256,7 @@ impl Scenario {
         let host = self.hosts.find(words.name()?)?;
         words.word(b"path")?;
         let mut path = Vec::new();
-        while path.is_empty() || words.0.peek().is_some() {
+        while path.is_empty() || words.0.is_some() {
             let switch = self.switches.find(words.name()?)?;
             if path.len() == 16 || path.contains(&switch) {
                 return None;
@@ -256,7 +269,7 @@ impl Scenario {
 
     fn link(&mut self, words: &mut Words) -> Option<()> {
         let host = self.hosts.find(words.name()?)?;
-        let letters = words.0.next()?;
+        let letters = words.next()?;
         let fits = !self.linked.contains(&host)
             && (1..=4096).contains(&letters.len())
             && letters.iter().all(|b| b"dxarh".contains(b));
@@ -271,10 +284,10 @@ impl Scenario {
         let delay = |_| words.number(0, u64::from(u32::MAX)).map(|d| d as u32);
         let delays = (0..hops).map(delay).collect::<Option<Vec<u32>>>()?;
         let mut burst = 1;
-        if words.0.next_if_eq(&b"burst".as_slice()).is_some() {
+        if words.next_if(b"burst") {
             burst = words.number(1, 1_000_000)? as u32;
         }
-        let fate = match words.0.next() {
+        let fate = match words.next() {
             None => Fate::Straight,
             Some(b"lost") => Fate::Lost(words.number(0, hops as u64)? as usize),
             Some(b"twice") => Fate::Twice,
@@ -287,7 +300,7 @@ impl Scenario {
     }
 
     fn end(&mut self, words: &mut Words) -> Option<()> {
-        if words.0.next_if_eq(&b"all".as_slice()).is_some() {
+        if words.next_if(b"all") {
             self.ends.iter_mut().for_each(|n| *n += 1);
             self.steps.push(Step::EndAll);
         } else {
