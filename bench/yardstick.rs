@@ -1,5 +1,6 @@
-//! The yardstick of `bench/run`: what `guardian run` and `guardian capture` do, as plain Rust over the standard library.
-//! It is written from docs/FORMATS.md and docs/DEFINITIONS.md, shares no code with the program, and proves nothing.
+//! The yardstick of `bench/run`: what `guardian run` and `guardian capture` do, as plain Rust over the standard
+//! library. It is written from docs/FORMATS.md and docs/DEFINITIONS.md, shares no code with the program, and proves
+//! nothing.
 //!
 //!     yardstick run < SCENARIO
 //!     yardstick capture < SCENARIO
@@ -467,7 +468,11 @@ impl Switch {
                     return None;
                 }
                 let (y, z) = (y % self.width, z % self.width);
-                if self.put_at[z] < self.put_at[y] { z } else { y }
+                if self.put_at[z] < self.put_at[y] {
+                    z
+                } else {
+                    y
+                }
             }
         };
         self.put += 1;
