@@ -1,17 +1,17 @@
 -- Which columns come to the hosts: those that the carry list names.
-use Rattle.std.specs.Prelude.{◌≡◌, ℕ, ◌<◌, ◌+◌, ◌==◌, List, [], ◌∷◌, All, Any, map, filter, length, take, Bool, true, false, cond, Option, Some, None, IfSome, slice_index, slice_index_or, replicate, count_by, ◌≤◌}
+use Rattle.std.specs.Prelude.{◌≡◌, ℕ, ◌<◌, ◌+◌, ◌==◌, List, [], ◌∷◌, All, Any, map, filter, length, take, Bool, true, false, cond, Option, Some, None, IfSome, slice_index_or, count_by, ◌≤◌}
 use Rattle.std.specs.List.{flat_map, filter_map, enumerate_from, find, cons_option, range_with_len}
 use Rattle.std.specs.Option.{option_map}
-use Rattle.std.proofs.Common.{refl, sym, ap, ◌∙◌, subst, arith, take_all}
+use Rattle.std.proofs.Common.{sym, ap, ◌∙◌, subst, arith, take_all}
 use Rattle.std.proofs.lemmas.List.Elements.{All-map, All-filter, All-append, All-nil, All-replicate, All-take, All-get_or, All-cons, All-head, All-tail}
 use Rattle.lg_model.proofs.Tracing.{ended_rises}
 use Rattle.lg_model.specs.declared.scenario.Flow.{Flow}
 use Rattle.lg_model.specs.declared.scenario.Step.{Step}
 use Rattle.lg_model.specs.declared.scenario.Step.TheVariants as steps
 use Rattle.lg_model.specs.Scenario.{Scenario, flow_at, no_flow, IsFlow, IsStep, IsScenario, ended, is_end_of}
-use Rattle.lg_model.specs.Trace.{Packet, Meeting, packets_of, packets, meetings, meetings_in, meetings_of, meeting_of, reach}
+use Rattle.lg_model.specs.Trace.{Packet, Meeting, packets_of, packets, meetings, meetings_of, meeting_of, reach}
 use Rattle.lg_model.specs.Carrying.{Carry, IsAllowed, IsCarriedAt}
-use Rattle.lg_model.specs.Arriving.{Column, column_of, cargo, brings, deliveries, arrivals, for_host, brought, brought_to_all, packet_at}
+use Rattle.lg_model.specs.Arriving.{Column, column_of, cargo, brings, deliveries, arrivals, brought, brought_to_all, packet_at}
 
 -- what each element gives
 pub all_flat : {X Y : Type 0} (P : Y → Type 0) (f : X → List Y) (xs : List X) → ((x : X) → All P (f x)) → All P (flat_map f xs)

@@ -1,19 +1,18 @@
 -- Each answer is true, and each column that came is a frozen one.
-use Rattle.std.specs.Prelude.{◌≡◌, ◌≢◌, ℕ, ◌<◌, ◌↔◌, List, [], ◌∷◌, All, Bool, true, false, ◌==◌, Some, None, IfSome, slice_index, slice_index_or, length}
-use Rattle.std.specs.List.{list_any, AllPairs}
-use Rattle.std.proofs.Common.{refl, sym, ap, ◌∙◌, subst, arith, inl, inr}
+use Rattle.std.specs.Prelude.{◌≡◌, ℕ, ◌<◌, ◌↔◌, List, [], All, true, ◌==◌, Some, None, IfSome, slice_index, slice_index_or, length}
+use Rattle.std.specs.List.{list_any}
+use Rattle.std.proofs.Common.{refl, sym, ap, ◌∙◌, arith, inl, inr}
 use Rattle.std.proofs.lemmas.Grind.{get_or_default_zero}
 use Rattle.std.proofs.lemmas.Bool.{cases_lt, eqb-true}
 use Rattle.std.proofs.lemmas.List.Folds.{Any-from_list_any}
 use Rattle.lg_model.specs.declared.column.Bucket.{Bucket}
 use Rattle.lg_model.specs.declared.column.Key.{Key}
 use Rattle.lg_model.specs.declared.scenario.Ask.{Ask}
-use Rattle.lg_model.specs.Scenario.{Scenario, IsScenario, ended}
-use Rattle.lg_model.specs.Placing.{place}
+use Rattle.lg_model.specs.Scenario.{Scenario, ended}
 use Rattle.lg_model.specs.Sketch.{column}
 use Rattle.lg_model.specs.Carrying.{Carry, picked, IsAllowed}
 use Rattle.lg_model.specs.Arriving.{Column, column_of, brought_to_all}
-use Rattle.lg_model.specs.Answer.{found, look_in, content_of}
+use Rattle.lg_model.specs.Answer.{found, look_in}
 use Rattle.lg_model.specs.Bound.{Agrees}
 use Rattle.lg_model.proofs.Answering.{true_answer}
 use Rattle.flow_query.specs.Told.{NoneIsKnown}

@@ -1,4 +1,4 @@
-use Rattle.std.specs.Prelude.{◌≡◌, ◌<◌, ◌≤◌, ◌+◌, ◌++◌, [], length, slice_index_or, take}
+use Rattle.std.specs.Prelude.{◌≡◌, ◌<◌, ◌+◌, ◌++◌, length, slice_index_or}
 use Rattle.std.specs.List.{flat_map, range_with_len}
 use Rattle.std.proofs.Common.{◌∙◌, sym, ap, subst, arith}
 use Rattle.std.proofs.lemmas.List.{length-append}
@@ -6,7 +6,7 @@ use Rattle.std.proofs.Math.Facts.{Fits-of_lt}
 use Rattle.lg_model.specs.declared.scenario.HostLine.{HostLine}
 use Rattle.lg_model.specs.Matching.{Matched}
 use Rattle.lg_model.specs.Carrying.{picked}
-use Rattle.lg_model.specs.Arriving.{Column, brought}
+use Rattle.lg_model.specs.Arriving.{brought}
 use Rattle.lg_model.proofs.Pairing.{matched_length}
 use Rattle.path_sim.specs.Parts.{IsOf}
 use Rattle.guardian_run.specs.Outputs.{host_lines}

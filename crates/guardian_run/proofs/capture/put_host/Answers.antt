@@ -1,5 +1,4 @@
-use Rattle.std.proofs.Common.{◌≡◌, ◌<◌, ◌≤◌, ◌∙◌, arith, ℕ, length}
-use Rattle.sketchlet_wire.specs.Packing.{packed_bytes}
+use Rattle.std.proofs.Common.{◌≡◌, arith, length}
 use Rattle.guardian_run.proofs.Keeping.{packed_is, hex_more, hex_all}
 use Rattle.guardian_run.proofs.capture.put_host.Goals as goal
 

@@ -1,4 +1,4 @@
-use Rattle.std.proofs.Common.{◌≡◌, ◌∙◌, ap}
+use Rattle.std.proofs.Common.{◌∙◌}
 use Rattle.guardian_run.proofs.Keeping.{content_more}
 use Rattle.guardian_run.proofs.report.book.Goals as goal
 

@@ -1,4 +1,4 @@
-use Rattle.std.proofs.Common.{◌≡◌, ◌<◌, ◌≤◌, ◌∙◌, ap, sym, arith, ℕ, length}
+use Rattle.std.proofs.Common.{◌≡◌, ◌∙◌, ap, sym, arith, length}
 use Rattle.column_book.specs.Kept.{BookState}
 use Rattle.sketchlet_wire.specs.Spelling.{ColumnData}
 use Rattle.sketchlet_wire.specs.Carried.{column_data, dims_of}
