@@ -18,7 +18,7 @@ use Rattle.lg_model.proofs.Answering.{true_answer}
 use Rattle.flow_query.specs.Told.{NoneIsKnown}
 use Rattle.flow_query.proofs.Telling.{law}
 use Rattle.scenario_lines.specs.Readable.{AreApart, IsAskLine}
-use Rattle.scenario_text.specs.Whole.{IsWhole}
+use Rattle.scenario_parts.specs.Whole.{IsWhole}
 use Rattle.guardian_run.specs.Outputs.{book_of}
 use Rattle.guardian_run.specs.Truth.{IsSwitch, IsFrozen, NoneArrived, IsTrueOf, IsTrueRun, asked_key, place_key}
 use Rattle.guardian_run.proofs.Found.{agrees_all, none_has, none_found}

@@ -7,7 +7,7 @@ use Rattle.lg_model.specs.declared.scenario.Pick.{Pick}
 use Rattle.lg_model.specs.Placing.{Shape}
 use Rattle.lg_model.specs.Scenario.{Scenario}
 use Rattle.scenario_lines.specs.Spelling.{Words, spaced, joined, line_text, guardian_words, shape_words, pick_line_words}
-use Rattle.scenario_text.specs.Printed.{first_text, declared_text, happening_text, text_of}
+use Rattle.scenario_parts.specs.Printed.{first_text, declared_text, happening_text, text_of}
 
 spaced_append : (ws vs : Words) → spaced (ws ++ vs) ≡ spaced ws ++ spaced vs
 spaced_append [] vs = refl

@@ -19,8 +19,8 @@ use Rattle.scenario_lines.specs.Spelling.{Words, joined, line_text, guardian_wor
 use Rattle.scenario_lines.specs.Draft.{State, start, scenario_of}
 use Rattle.scenario_lines.specs.Line.{line_of}
 use Rattle.scenario_text.specs.Text.{lines_say, reading, most_bytes}
-use Rattle.scenario_text.specs.Printed.{lines_text, link_text, first_text, declared_text, happening_text, text_of}
-use Rattle.scenario_text.specs.Whole.{IsWhole}
+use Rattle.scenario_parts.specs.Printed.{lines_text, link_text, first_text, declared_text, happening_text, text_of}
+use Rattle.scenario_parts.specs.Whole.{IsWhole}
 use Rattle.scenario_text.proofs.WordsAgain.{AreWords, joined_plain, plain_unbroken, plain_bare}
 use Rattle.scenario_text.proofs.NamesAgain.{at_seam, name_fresh, list_any-map}
 use Rattle.scenario_text.proofs.LinesAgain.{at_state, section_of, guardian_read, shape_are_words, shape_read, pick_are_words, pick_read, bare, host_are_words, host_read, switch_are_words, switch_read, FlowFits, flow_are_words, flow_read, link_are_words, link_read, PacketFits, packet_are_words, packet_read, end_are_words, end_read, end_all_read, release_read, ask_are_words, ask_read, done_read}

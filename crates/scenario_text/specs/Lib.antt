@@ -2,5 +2,3 @@ pub mod Sources
 pub mod Text
 pub mod Reading
 pub mod Worked
-pub mod Printed
-pub mod Whole

@@ -1,8 +1,8 @@
 //! Laws over the definitions, each on a function with an empty body.
 ghost use Rattle.std.specs.Prelude.{◌≡◌, ◌≤◌, ℕ, List, Ok, length};
 ghost use Rattle.lg_model.specs.Scenario.{Scenario};
-ghost use Rattle.scenario_text.specs.Printed.{text_of};
-ghost use Rattle.scenario_text.specs.Whole.{IsWhole};
+ghost use Rattle.scenario_parts.specs.Printed.{text_of};
+ghost use Rattle.scenario_parts.specs.Whole.{IsWhole};
 ghost use Rattle.scenario_text.specs.Text.{reading, deciding};
 ghost use Rattle.scenario_text.specs.Worked.{WorkedTexts};
 

@@ -2,7 +2,7 @@
 ghost use Rattle.std.specs.Prelude.{◌≡◌, ◌≤◌, ◌++◌, length, OnOk, IfOk, Ok};
 ghost use Rattle.scenario_lines.specs.Spelling.{line_text, guardian_words, shape_words, pick_line_words};
 ghost use Rattle.scenario_text.specs.Text.{reading};
-ghost use Rattle.scenario_text.specs.Printed.{declared_text, happening_text, text_of};
+ghost use Rattle.scenario_parts.specs.Printed.{declared_text, happening_text, text_of};
 
 use crate::put_declared::{put_flows, put_hosts, put_links, put_switches};
 use crate::put_first::{put_guardian, put_pick, put_shape};

@@ -4,7 +4,7 @@ ghost use Rattle.std.specs.List.{flat_map, list_all};
 ghost use Rattle.std.specs.Fmt.{decimal};
 ghost use Rattle.lg_model.specs.Scenario.{IsFlow};
 ghost use Rattle.scenario_lines.specs.Spelling.{spaced, joined, line_text, host_words, switch_words, key_parts, path_words, flow_words, link_words, host_names};
-ghost use Rattle.scenario_text.specs.Printed.{lines_text, link_text};
+ghost use Rattle.scenario_parts.specs.Printed.{lines_text, link_text};
 
 use crate::put::{put_byte, put_key, put_letters, put_next, put_path, put_text};
 use lg_model::{Flow, HostLine};

@@ -4,7 +4,7 @@ ghost use Rattle.std.specs.Fmt.{decimal};
 ghost use Rattle.lg_model.specs.Scenario.{IsStep, IsAsk};
 ghost use Rattle.scenario_lines.specs.Counts.{names_of};
 ghost use Rattle.scenario_lines.specs.Spelling.{spaced, joined, line_text, burst_words, fate_words, step_words, ask_words, done_words};
-ghost use Rattle.scenario_text.specs.Printed.{lines_text};
+ghost use Rattle.scenario_parts.specs.Printed.{lines_text};
 
 use crate::put::{put_byte, put_delays, put_next, put_text};
 use lg_model::{Ask, Fate, Flow, Step};

@@ -1,7 +1,7 @@
 //! Scenarios.
 ghost use Rattle.std.specs.Prelude.{◌≡◌};
 ghost use Rattle.lg_model.specs.Scenario as model;
-ghost use Rattle.scenario_text.specs.Whole.{IsWhole};
+ghost use Rattle.scenario_parts.specs.Whole.{IsWhole};
 ghost use Rattle.scenario_lines.specs.Draft.{view, scenario_of, Fits};
 
 use lg_model::{Ask, Flow, HostLine, Pick, Step};
@@ -26,7 +26,7 @@ pub struct Scenario {
 
 impl Model for Scenario {
     ghost use Rattle.lg_model.specs.Scenario as model;
-    ghost use Rattle.scenario_text.specs.Whole as whole;
+    ghost use Rattle.scenario_parts.specs.Whole as whole;
 
     ghost Value = { model.Scenario };
 

@@ -1,6 +1,6 @@
 use Rattle.std.proofs.Common.{◌≡◌, ◌≤◌, List, ℕ, length, subst, sym, Ok}
 use Rattle.scenario_text.specs.Text.{reading}
-use Rattle.scenario_text.specs.Printed.{text_of}
+use Rattle.scenario_parts.specs.Printed.{text_of}
 use Rattle.scenario_text.proofs.TextAgain.{printed}
 use Rattle.scenario_text.proofs.PrintLemmas.{in_three}
 use Rattle.scenario_text.proofs.printing.print.Goals as goal

@@ -1,6 +1,6 @@
 use Rattle.std.proofs.Common.{◌≡◌, ◌++◌, take}
 use Rattle.std.specs.List.{flat_map}
-use Rattle.scenario_text.specs.Printed.{link_text}
+use Rattle.scenario_parts.specs.Printed.{link_text}
 use Rattle.scenario_text.proofs.put_declared.put_links.Given as goal
 
 abbrev pub invariant-loop-host : goal.invariant-loop-host

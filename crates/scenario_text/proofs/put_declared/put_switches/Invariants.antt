@@ -1,6 +1,6 @@
 use Rattle.std.proofs.Common.{◌≡◌, ◌++◌, take}
 use Rattle.scenario_lines.specs.Spelling.{switch_words}
-use Rattle.scenario_text.specs.Printed.{lines_text}
+use Rattle.scenario_parts.specs.Printed.{lines_text}
 use Rattle.scenario_text.proofs.put_declared.put_switches.Given as goal
 
 abbrev pub invariant-loop-name : goal.invariant-loop-name

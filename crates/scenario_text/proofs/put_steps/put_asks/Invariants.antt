@@ -1,6 +1,6 @@
 use Rattle.std.proofs.Common.{◌≡◌, ◌++◌, take}
 use Rattle.scenario_lines.specs.Spelling.{ask_words}
-use Rattle.scenario_text.specs.Printed.{lines_text}
+use Rattle.scenario_parts.specs.Printed.{lines_text}
 use Rattle.scenario_text.proofs.put_steps.put_asks.Given as goal
 
 abbrev pub invariant-loop-ask : goal.invariant-loop-ask

@@ -1,0 +1,2 @@
+//! Whether parts make a scenario, and the length of its text.
+#![tactic(auto)]
