@@ -1,7 +1,9 @@
 //! The network with the scenario's own pickers.
-ghost use Rattle.std.specs.Prelude.{◌≡◌, All, IfOk};
+ghost use Rattle.std.specs.Prelude.{◌≡◌, All, IfOk, length};
 ghost use Rattle.lg_model.specs.Scenario.{IsScenario};
 ghost use Rattle.lg_model.specs.Carrying.{picked, IsAllowed};
+ghost use Rattle.lg_model.specs.Trace.{meetings};
+ghost use Rattle.lg_model.specs.Twin.{AreTwins};
 ghost use Rattle.path_sim.specs.Parts.{carried_are, IsNamed};
 ghost use Rattle.path_sim.specs.Arrived.{HaveArrived};
 ghost use Rattle.path_sim.specs.Own.{AreFresh};
@@ -31,6 +33,7 @@ pub fn run_own(alloc: Global, scenario: &Scenario) -> Result<Arrivals, Memory>
     ensures allowed { IfOk result (λ a. IsAllowed scenario.now (picked scenario.now)) }
     ensures names { IfOk result (λ a. All (IsNamed scenario.now) a.carried) }
     ensures arrived { IfOk result (λ a. HaveArrived scenario.now (picked scenario.now) a.inboxes) }
+    ensures twins { IfOk result (λ a. AreTwins scenario.now (length scenario.now.steps) (meetings scenario.now) (picked scenario.now) a.twins) }
 {
     let mut pickers = own_pickers(alloc, scenario)?;
     run_net(alloc, scenario, &mut pickers)

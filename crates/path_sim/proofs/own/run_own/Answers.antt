@@ -1,7 +1,9 @@
-use Rattle.std.proofs.Common.{◌∙◌}
+use Rattle.std.proofs.Common.{◌∙◌, length}
 use Rattle.std.proofs.lemmas.Result.{IfOk-weaker}
 use Rattle.lg_model.specs.Carrying.{picked, IsAllowed}
 use Rattle.lg_model.specs.Asking.{asking}
+use Rattle.lg_model.specs.Trace.{meetings}
+use Rattle.lg_model.specs.Twin.{AreTwins}
 use Rattle.path_sim.specs.Outcome.{Outcome}
 use Rattle.path_sim.specs.Parts.{carried_are}
 use Rattle.path_sim.specs.Arrived.{HaveArrived}
@@ -23,3 +25,8 @@ pub returns-clause-arrived : goal.returns-clause-arrived
 returns-clause-arrived c =
     let w = c.args.scenario.now in
     with_picked c.run_net.result (λ (a : Outcome). carried_are a.carried) (picked w) (λ a cs. HaveArrived w cs a.inboxes) (returns-clause-picked c) c.run_net.ensures.arrived
+
+pub returns-clause-twins : goal.returns-clause-twins
+returns-clause-twins c =
+    let w = c.args.scenario.now in
+    with_picked c.run_net.result (λ (a : Outcome). carried_are a.carried) (picked w) (λ a cs. AreTwins w (length w.steps) (meetings w) cs a.twins) (returns-clause-picked c) c.run_net.ensures.twins
