@@ -52,6 +52,13 @@ pub record AreRanges (w : Scenario) : Type 0 where
 abbrev pub IsFlowPlace : (hosts switches : ℕ) → Flow → Type 0
 IsFlowPlace hosts switches f = (f.host_at < hosts) × (All (λ s. s < switches) f.path)
 
+-- The switch of an end is there.
+abbrev pub IsEndPlace : (switches : ℕ) → Step → Type 0
+IsEndPlace switches (steps.Packet _ _ _ _ _) = Unit {0}
+IsEndPlace switches (steps.End at) = at < switches
+IsEndPlace switches steps.EndAll = Unit {0}
+IsEndPlace switches steps.Release = Unit {0}
+
 -- The flow of a packet or the switch of an end is there.
 abbrev pub IsStepPlace : (flows switches : ℕ) → Step → Type 0
 IsStepPlace flows switches (steps.Packet at _ _ _ _) = at < flows

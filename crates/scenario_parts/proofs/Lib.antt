@@ -1,0 +1,3 @@
+pub mod EachLemmas
+pub mod ApartLemmas
+pub mod CountLemmas
