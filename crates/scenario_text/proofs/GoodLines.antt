@@ -1,0 +1,241 @@
+-- A line that spells a part is read only where the part fits those before it.
+use Rattle.std.proofs.Common.{◌≡◌, ℕ, suc, ◌+◌, ◌<◌, ◌≤◌, ◌^◌, ◌&&◌, ◌||◌, not, Bool, true, false, cond, eqb, ltb, List, [], ◌∷◌, ◌++◌, length, length-append, get_or, map, Some, None, refl, sym, ap, subst, ◌∙◌, arith, All, lit<, append_assoc}
+use Rattle.std.specs.Prelude.{Option, Result, Ok, Err, codes, nat_lt, nat_le, slice_index}
+use Rattle.std.specs.List.{list_any, list_all, position, position_or_len}
+use Rattle.std.specs.Str.{bytes_eq}
+use Rattle.std.specs.Fmt.{decimal}
+use Rattle.std.proofs.lemmas.Bool.{and_parts}
+use Rattle.std.proofs.lemmas.List.{append-nil, length-map, map-append}
+use Rattle.std.proofs.lemmas.List.Elements.{All-push}
+use Rattle.flow_key.specs.Words.{number_to, is_number}
+use Rattle.flow_key.proofs.KeyLemmas.{number_is, number_again}
+use Rattle.lg_model.specs.declared.scenario.Letter.{Letter}
+use Rattle.lg_model.specs.declared.scenario.HostLine.{HostLine}
+use Rattle.lg_model.specs.declared.scenario.Flow.{Flow}
+use Rattle.lg_model.specs.declared.scenario.Fate.{Fate}
+use Rattle.lg_model.specs.declared.scenario.Fate.TheVariants as fates
+use Rattle.lg_model.specs.declared.scenario.Step.{Step}
+use Rattle.lg_model.specs.declared.scenario.Step.TheVariants as steps
+use Rattle.lg_model.specs.declared.scenario.Ask.{Ask}
+use Rattle.lg_model.specs.Scenario.{Scenario, IsFlow, packet_count, reached}
+use Rattle.scenario_lines.specs.declared.why.Why.{Why}
+use Rattle.scenario_lines.specs.declared.section.Section.TheVariants.{Declarations, Steps}
+use Rattle.scenario_lines.specs.declared.section.Keyword.TheVariants as words
+use Rattle.scenario_lines.specs.Sections.{keyword_of}
+use Rattle.scenario_lines.specs.Counts.{names_of, path_at, ends_of}
+use Rattle.scenario_lines.specs.Readable.{AreApart, IsFlowLine}
+use Rattle.scenario_lines.specs.Spelling.{Words, joined, host_words, switch_words, host_names, key_parts, path_words, flow_words, byte_of, link_words, burst_words, fate_words, step_words, ask_words}
+use Rattle.scenario_lines.specs.Draft.{State, IsDraft}
+use Rattle.scenario_lines.specs.Fields.{◌>>=◌, number, word, ended, fresh, known, place, fresh_host, fresh_flow, host_place, room, room_to, room_for_all, hop, path, letters_word, delays, burst, fate}
+use Rattle.scenario_lines.specs.Line.{host_line, switch_line, flow_line, linked, unlinked, link_line, packet_line, end_one, end_all, end_line, release_line, ask_line, line_of}
+use Rattle.scenario_lines.proofs.ReadableLemmas.{apart_push}
+use Rattle.scenario_lines.proofs.ScenarioLemmas.{host_more, host_linked, switch_more, step_more, ask_more, end_fits, room_at}
+use Rattle.scenario_parts.specs.Parts.{IsFlowRange, IsFateRange, IsStepRange, IsAskRange, IsFlowPlace}
+use Rattle.scenario_text.proofs.WordsAgain.{AreWords, words_append, number_word_is, numbers_are_words, number_read}
+use Rattle.scenario_text.proofs.NamesAgain.{name_found, thing_found, list_any-map}
+use Rattle.scenario_text.proofs.LinesAgain.{at_state, section_of, form_read, bare, host_are_words, host_read, switch_are_words, switch_read, key_read, path_read, path_are_words, flow_are_words_of, FlowFits, flow_read, link_are_words, link_read, get_seam, set_seam, place_seam, later, placed, delays_read, burst_if, PacketFits, packet_read, flow_found, not_word, no_number, end_are_words, end_read, end_all_read, release_read, ask_are_words, ask_read}
+use Rattle.scenario_text.proofs.TextAgain.{names_small, things_fresh}
+
+-- Where the line of these words is read at all, it leads to this state, and its parts fit each other.
+abbrev pub Leads : State → Words → State → Type 0
+Leads s ws t = (u : State) → line_of s (joined ws) ≡ Ok u → (line_of s (joined ws) ≡ Ok t) × IsDraft t
+
+-- ---- what was read of two fields, and of a test
+
+both_read : {A B : Type 0} (r : Result A Why) (f : A → Result B Why) (u : B) → (r >>= f) ≡ Ok u → (x : A) × (r ≡ Ok x) × (f x ≡ Ok u)
+both_read (Ok x) f u h = (x, refl, h)
+both_read (Err e) f u h = absurd cc
+
+if_read : {A : Type 0} (b : Bool) (a x : A) (e : Why) → cond b (Ok a) (Err e) ≡ Ok x → b ≡ true
+if_read true a x e h = refl
+if_read false a x e h = absurd cc
+
+unless_read : {A : Type 0} (b : Bool) (r : Result A Why) (x : A) (e : Why) → cond b (Err e) r ≡ Ok x → (b ≡ false) × (r ≡ Ok x)
+unless_read true r x e h = absurd cc
+unless_read false r x e h = (refl, h)
+
+under : (a b : ℕ) → nat_lt a b ≡ true → a < b
+under a b e = grind arith
+
+at_most : (a b : ℕ) → nat_le a b ≡ true → a ≤ b
+at_most a b e = grind arith
+
+room_left : (most held : ℕ) (x : Unit {0}) → room most held ≡ Ok x → held < most
+unfolding room
+room_left most held x h = under held most (if_read _ _ _ _ h)
+
+-- ---- numbers
+
+decimal_same : (n m : ℕ) → n < 2 ^ 64 → m < 2 ^ 64 → decimal n ≡ decimal m → n ≡ m
+decimal_same n m small low same =
+    let one : Some n ≡ Some m = sym (number_again 18446744073709551615 n (lit< tt) (omega (arith, small))) ∙ ap (number_to 18446744073709551615) same ∙ number_again 18446744073709551615 m (lit< tt) (omega (arith, low)) in
+    cc
+
+number_range : (low most n : ℕ) (ws : Words) (x : ℕ × Words) → n < 2 ^ 64 → most < 2 ^ 64 → number low most (decimal n ∷ ws) ≡ Ok x → (low ≤ n) × (n ≤ most)
+unfolding number
+number_range low most n ws x small few h = by (number_to most (decimal n)) refl where
+  by : (o : Option ℕ) → number_to most (decimal n) ≡ o → (low ≤ n) × (n ≤ most)
+  by None e = absurd (let bad = rw e at h in cc)
+  by (Some m) e =
+      let is = number_is most (decimal n) m few e in
+      let same : n ≡ m = decimal_same n m small (omega (arith, is.1, few)) is.0 in
+      let read = rw e at h in
+      (omega (arith, same, at_most low m (if_read _ _ _ _ read)), omega (arith, same, is.1))
+
+-- ---- hosts and switches
+
+new_host : (hosts : List HostLine) (n : ℕ) (x : Unit {0}) → fresh_host hosts n ≡ Ok x → list_any (λ g. eqb g.name n) hosts ≡ false
+unfolding fresh_host
+new_host hosts n x h = let r = unless_read _ _ _ _ h in r.0
+
+new_name : (names : List ℕ) (n : ℕ) (x : Unit {0}) → fresh names n ≡ Ok x → list_any (λ m. eqb m n) names ≡ false
+unfolding fresh
+new_name names n x h = let r = unless_read _ _ _ _ h in r.0
+
+pub host_leads : (w : Scenario) (h : HostLine) → IsDraft (at_state Declarations w) → h.name < 65536 → Leads (at_state Declarations w) (host_words h) (at_state Declarations (record w { hosts = w.hosts ++ bare h ∷ [] }))
+unfolding keyword_of host_line ended
+host_leads w h ok small = λ u line.
+    let form = sym (form_read (at_state Declarations w) (codes "host") (decimal h.name ∷ []) words.Host refl refl refl refl (host_are_words h small)) ∙ line in
+    let named = rw (number_read 65535 h.name [] (lit< tt) (omega arith)) at form in
+    let fresh = both_read _ _ u named in
+    let room = both_read _ _ u fresh.2 in
+    let new = new_host w.hosts h.name fresh.0 fresh.1 in
+    let few = room_left 64 (length w.hosts) room.0 room.1 in
+    (host_read w h small new few, host_more (at_state Declarations w) (w.hosts ++ bare h ∷ []) (bare h) ok refl few (record { name = small; few_letters = omega arith }) new)
+
+pub switch_leads : (w : Scenario) (n : ℕ) → IsDraft (at_state Declarations w) → n < 65536 → Leads (at_state Declarations w) (switch_words n) (at_state Declarations (record w { switches = w.switches ++ n ∷ [] }))
+unfolding keyword_of switch_line ended
+switch_leads w n ok small = λ u line.
+    let form = sym (form_read (at_state Declarations w) (codes "switch") (decimal n ∷ []) words.Switch refl refl refl refl (switch_are_words n small)) ∙ line in
+    let named = rw (number_read 65535 n [] (lit< tt) (omega arith)) at form in
+    let fresh = both_read _ _ u named in
+    let room = both_read _ _ u fresh.2 in
+    let new = new_name w.switches n fresh.0 fresh.1 in
+    let few = room_left 64 (length w.switches) room.0 room.1 in
+    (switch_read w n small new few, switch_more (at_state Declarations w) (w.switches ++ n ∷ []) n ok refl refl few small new)
+
+-- ---- flows
+
+-- The hop behind those so far goes by a switch that they don't go by, where they are fewer than 16.
+hop_good : (switches sofar : List ℕ) (at x : ℕ) → AreApart switches → at < length switches → slice_index switches at < 65536 → hop switches sofar (decimal (slice_index switches at)) ≡ Ok x → (x ≡ at) × (eqb (length sofar) 16 ≡ false) × (list_any (λ m. eqb m at) sofar ≡ false)
+unfolding hop place
+hop_good switches sofar at x own lt small h =
+    let found = rw (number_read 65535 (slice_index switches at) [] (lit< tt) (omega arith), name_found switches at own lt) at h in
+    let short = unless_read (eqb (length sofar) 16) _ x _ found in
+    let fresh = both_read _ _ x short.1 in
+    let same : ◌≡◌ {A = Result ℕ Why} (Ok at) (Ok x) = fresh.2 in
+    (cc, short.0, new_name sofar at fresh.0 fresh.1)
+
+path_good : (switches sofar ats x : List ℕ) → AreApart switches → All (λ n. n < 65536) switches → All (λ at. at < length switches) ats → AreApart sofar → length sofar ≤ 16 → path switches sofar (path_words switches ats) ≡ Ok x → (AreApart (sofar ++ ats)) × (length sofar + length ats ≤ 16) × (0 < length sofar + length ats)
+unfolding path
+path_good switches sofar [] x own small within once few h =
+    let some : eqb (length sofar) 0 ≡ false = let r = unless_read _ _ _ _ h in r.0 in
+    (rw append-nil once, omega arith, grind arith)
+path_good switches sofar (at ∷ ats) x own small within once few h =
+    let lt : at < length switches = within 0 0 (omega arith) in
+    let next = both_read _ _ x h in
+    let good = hop_good switches sofar at next.0 own lt (small at 0 lt) next.1 in
+    let rest = rw good.0 at next.2 in
+    let len = length-append sofar (at ∷ []) in
+    let more : length (sofar ++ at ∷ []) ≤ 16 = let short = good.1 in grind (arith, len) in
+    let all = path_good switches (sofar ++ at ∷ []) ats x own small (λ i d l. within (suc i) d (omega arith)) (apart_push sofar at once good.2) more rest in
+    (rw append_assoc at all.0, omega (arith, all.1, len), omega (arith, all.2, len))
+
+found_within : (p : ℕ → Bool) (names : List ℕ) → list_any p names ≡ true → position_or_len p names < length names
+found_within p [] some = absurd cc
+found_within p (m ∷ names) some = by (p m) refl (found_within p names) where
+  by : (b : Bool) → p m ≡ b → (list_any p names ≡ true → position_or_len p names < length names) → position_or_len p (m ∷ names) < length (m ∷ names)
+  by true e rest = rw e (omega arith)
+  by false e rest = let later : list_any p names ≡ true = rw e at some in rw e (let lt = rest later in omega (arith, lt))
+
+new_flow : (flows : List Flow) (n : ℕ) (x : Unit {0}) → fresh_flow flows n ≡ Ok x → list_any (λ m. eqb m n) (names_of flows) ≡ false
+unfolding fresh_flow
+new_flow flows n x h = by (list_any (λ m. eqb m n) (names_of flows)) refl where
+  by : (b : Bool) → list_any (λ m. eqb m n) (names_of flows) ≡ b → b ≡ false
+  by false e = refl
+  by true e =
+      let within = found_within (λ m. eqb m n) (names_of flows) e in
+      let is : ltb (position_or_len (λ m. eqb m n) (names_of flows)) (length (names_of flows)) ≡ true = grind arith in
+      absurd (let bad = rw is at h in cc)
+
+-- One more flow fits where none has its name and there is room.
+flow_draft : (w : Scenario) (f : Flow) → IsDraft (at_state Declarations w) → IsFlow (length w.hosts) (length w.switches) f → IsFlowLine f → list_any (λ m. eqb m f.name) (names_of w.flows) ≡ false → length w.flows < 4096 → IsDraft (at_state Declarations (record w { flows = w.flows ++ f ∷ [] }))
+flow_draft w f ok fits line new few =
+    let len = length-append w.flows (f ∷ []) in
+    record {
+      scenario = record {
+        shape = ok.scenario.shape;
+        few_hosts = ok.scenario.few_hosts;
+        few_switches = ok.scenario.few_switches;
+        flows = All-push (IsFlow (length w.hosts) (length w.switches)) w.flows f ok.scenario.flows fits;
+        steps = rw (ok.no_steps refl) (λ i d lt. absurd (omega (arith, lt)));
+        asks = λ i d lt. omega (arith, ok.scenario.asks i d lt, len);
+        few_packets = ok.scenario.few_packets;
+        few_ends = ok.scenario.few_ends;
+      };
+      lines = record {
+        hash = ok.lines.hash;
+        pick = ok.lines.pick;
+        hosts = ok.lines.hosts;
+        own_hosts = ok.lines.own_hosts;
+        switches = ok.lines.switches;
+        own_switches = ok.lines.own_switches;
+        few_flows = omega (arith, len, few);
+        flows = All-push IsFlowLine w.flows f ok.lines.flows line;
+        own_flows = rw (map-append (λ (g : Flow). g.name) w.flows (f ∷ [])) (apart_push (names_of w.flows) f.name ok.lines.own_flows new);
+        steps = ok.lines.steps;
+        few_asks = ok.lines.few_asks;
+        asks = ok.lines.asks;
+      };
+      no_steps = ok.no_steps;
+    }
+
+pub flow_leads : (w : Scenario) (hosts : List HostLine) (f : Flow) → IsDraft (at_state Declarations w) → host_names w.hosts ≡ host_names hosts → IsFlowRange f → IsFlowPlace (length w.hosts) (length w.switches) f → Leads (at_state Declarations w) (flow_words hosts w.switches f) (at_state Declarations (record w { flows = w.flows ++ f ∷ [] }))
+unfolding keyword_of flow_line host_place word
+flow_leads w hosts f ok names range within = λ u line.
+    let host : slice_index (host_names w.hosts) f.host_at < 65536 = names_small (λ (g : HostLine). g.name) w.hosts (λ i d lt. let l = ok.lines.hosts i d lt in l.name) f.host_at 0 (omega (arith, within.0, length-map w.hosts (λ (g : HostLine). g.name))) in
+    let words_ok = flow_are_words_of w.switches f (slice_index (host_names hosts) f.host_at) (rw names at host) range.0 range.1 (path_are_words w.switches f.path ok.lines.switches within.1) in
+    let form = sym (form_read (at_state Declarations w) (codes "flow") (decimal f.name ∷ key_parts f.key (codes "host" ∷ decimal (slice_index (host_names hosts) f.host_at) ∷ codes "path" ∷ path_words w.switches f.path)) words.Flow refl refl refl refl words_ok) ∙ line in
+    let here = rw (← names) at form in
+    let named = rw (number_read 65535 f.name (key_parts f.key (codes "host" ∷ decimal (slice_index (host_names w.hosts) f.host_at) ∷ codes "path" ∷ path_words w.switches f.path)) (lit< tt) (omega (arith, range.0))) at here in
+    let fresh = both_read (fresh_flow w.flows f.name) _ u named in
+    let keyed = rw (key_read f.key (codes "host" ∷ decimal (slice_index (host_names w.hosts) f.host_at) ∷ codes "path" ∷ path_words w.switches f.path) range.1, number_read 65535 (slice_index (host_names w.hosts) f.host_at) (codes "path" ∷ path_words w.switches f.path) (lit< tt) (omega (arith, host)), thing_found (λ (g : HostLine). g.name) w.hosts f.host_at ok.lines.own_hosts within.0) at fresh.2 in
+    let hops = both_read (path w.switches [] (path_words w.switches f.path)) _ u keyed in
+    let room = both_read (room 4096 (length w.flows)) _ u hops.2 in
+    let path = path_good w.switches [] f.path hops.0 ok.lines.own_switches ok.lines.switches within.1 (λ i j d less lt. absurd (omega (arith, lt))) (omega arith) hops.1 in
+    let good : FlowFits w hosts f = record {
+      names = names;
+      fits = record { host = within.0; path = within.1; some_hops = omega (arith, path.2); few_hops = omega (arith, path.1) };
+      line = record { name = range.0; key = range.1; once = path.0 };
+      own_hosts = ok.lines.own_hosts;
+      host_name = host;
+      own_switches = ok.lines.own_switches;
+      small_switches = ok.lines.switches;
+      new_flow = new_flow w.flows f.name fresh.0 fresh.1;
+      room_left = room_left 4096 (length w.flows) room.0 room.1;
+    } in
+    (flow_read w hosts f good, flow_draft w f ok good.fits good.line good.new_flow good.room_left)
+
+-- ---- letters
+
+middle : (b c d : Bool) → (b && c && d) ≡ true → c ≡ true
+middle b c d e = let two = and_parts (b && c) d e in let both = and_parts b c two.0 in both.1
+
+few_letters : (ls : List Letter) (x : List Letter × Words) → letters_word (map byte_of ls ∷ []) ≡ Ok x → length ls ≤ 4096
+unfolding letters_word
+few_letters ls x h =
+    let good = if_read _ _ _ _ h in
+    let few : length (map byte_of ls) ≤ 4096 = at_most (length (map byte_of ls)) 4096 (middle _ _ _ good) in
+    omega (arith, few, length-map ls byte_of)
+
+pub link_leads : (w : Scenario) (done rest : List HostLine) (h : HostLine) → IsDraft (at_state Declarations (record w { hosts = done ++ bare h ∷ rest })) → h.name < 65536 → 0 < length h.letters
+    → Leads (at_state Declarations (record w { hosts = done ++ bare h ∷ rest })) (link_words h) (at_state Declarations (record w { hosts = done ++ h ∷ rest }))
+unfolding keyword_of link_line host_place unlinked ended
+link_leads w done rest h ok small some = λ u line.
+    let new : list_any (λ g. eqb g.name h.name) done ≡ false = sym (list_any-map (λ m. eqb m h.name) (λ (g : HostLine). g.name) done) ∙ things_fresh (λ (g : HostLine). g.name) done rest (bare h) ok.lines.own_hosts in
+    let form = sym (form_read (at_state Declarations (record w { hosts = done ++ bare h ∷ rest })) (codes "link") (decimal h.name ∷ map byte_of h.letters ∷ []) words.Link refl refl refl refl (link_are_words h small)) ∙ line in
+    let named = rw (number_read 65535 h.name (map byte_of h.letters ∷ []) (lit< tt) (omega arith), place_seam done rest h new, get_seam done rest (bare h)) at form in
+    let letters = both_read _ _ u named in
+    let few = few_letters h.letters letters.0 letters.1 in
+    let is : done ++ h ∷ rest ≡ linked (done ++ bare h ∷ rest) (length done) h.letters = rw (get_seam done rest (bare h)) (sym (set_seam done rest (bare h) h)) in
+    (link_read w done rest h small some few new, host_linked (at_state Declarations (record w { hosts = done ++ bare h ∷ rest })) (done ++ h ∷ rest) (length done) h.letters ok is few)
