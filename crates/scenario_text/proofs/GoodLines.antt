@@ -7,6 +7,7 @@ use Rattle.std.specs.Fmt.{decimal}
 use Rattle.std.proofs.lemmas.Bool.{and_parts}
 use Rattle.std.proofs.lemmas.List.{append-nil, length-map, map-append}
 use Rattle.std.proofs.lemmas.List.Elements.{All-push}
+use Rattle.std.proofs.lemmas.Slice.Eq.{bytes_eq-Decides}
 use Rattle.flow_key.specs.Words.{number_to, is_number}
 use Rattle.flow_key.proofs.KeyLemmas.{number_is, number_again}
 use Rattle.lg_model.specs.declared.scenario.Letter.{Letter}
@@ -239,3 +240,74 @@ link_leads w done rest h ok small some = λ u line.
     let few = few_letters h.letters letters.0 letters.1 in
     let is : done ++ h ∷ rest ≡ linked (done ++ bare h ∷ rest) (length done) h.letters = rw (get_seam done rest (bare h)) (sym (set_seam done rest (bare h) h)) in
     (link_read w done rest h small some few new, host_linked (at_state Declarations (record w { hosts = done ++ bare h ∷ rest })) (done ++ h ∷ rest) (length done) h.letters ok is few)
+
+-- ---- steps
+
+fate_words_are : (x : Fate) → IsFateRange x → AreWords (fate_words x)
+fate_words_are fates.Straight range = tt
+fate_words_are (fates.Lost k) range = (refl, (number_word_is k (omega (arith, range)), tt))
+fate_words_are fates.Twice range = (refl, tt)
+fate_words_are fates.Late range = (refl, tt)
+
+burst_words_are : (n : ℕ) (b : Bool) → eqb n 1 ≡ b → n < 4294967296 → AreWords (burst_words n)
+burst_words_are n true e small = rw e tt
+burst_words_are n false e small = rw e (refl, (number_word_is n (omega arith), tt))
+
+-- The words behind the delays are no numbers.
+no_delay : (n : ℕ) (b : Bool) (x : Fate) (y : ℕ × Words) → eqb n 1 ≡ b → number 0 4294967295 (burst_words n ++ fate_words x) ≡ Ok y → ⊥
+unfolding number number_to is_number
+no_delay n false x y e h = let bad = rw e at h in cc
+no_delay n true fates.Straight y e h = let bad = rw e at h in cc
+no_delay n true (fates.Lost k) y e h = let bad = rw e at h in cc
+no_delay n true fates.Twice y e h = let bad = rw e at h in cc
+no_delay n true fates.Late y e h = let bad = rw e at h in cc
+
+-- A number is none of the words that may stand behind the delays.
+no_tail : (d : ℕ) (w : List ℕ) → d < 4294967296 → number_to 4294967295 w ≡ None → bytes_eq (decimal d) w ≡ false
+no_tail d w small none = by (bytes_eq (decimal d) w) refl where
+  by : (b : Bool) → bytes_eq (decimal d) w ≡ b → b ≡ false
+  by false e = refl
+  by true e =
+      let is : ◌≡◌ {A = Option ℕ} (Some d) None = sym (number_again 4294967295 d (lit< tt) (omega arith)) ∙ ap (number_to 4294967295) ((bytes_eq-Decides (decimal d) w).0 e) ∙ none in
+      absurd cc
+
+none_number : (number_to 4294967295 (codes "burst") ≡ None) × (number_to 4294967295 (codes "lost") ≡ None) × (number_to 4294967295 (codes "twice") ≡ None) × (number_to 4294967295 (codes "late") ≡ None)
+unfolding number_to is_number
+none_number = (refl, refl, refl, refl)
+
+-- Behind as many delays as there are hops no number may stand.
+stray : {A : Type 0} (hops d : ℕ) (ws : Words) (g : (ℕ × Words) → Fate → Result A Why) (u : A) → d < 4294967296 → (burst (decimal d ∷ ws) >>= (λ b. fate hops b.1 >>= g b)) ≡ Ok u → ⊥
+unfolding burst fate
+stray hops d ws g u small h =
+    let bad = rw (no_tail d (codes "burst") small none_number.0, no_tail d (codes "lost") small none_number.1, no_tail d (codes "twice") small none_number.2, no_tail d (codes "late") small none_number.3) at h in
+    cc
+
+as_many : {A : Type 0} (path sofar ds : List ℕ) (hops n : ℕ) (x : Fate) (g : (List ℕ × Words) → (ℕ × Words) → Fate → Result A Why) (u : A) → All (λ d. d < 4294967296) ds
+    → (delays path sofar (map decimal ds ++ (burst_words n ++ fate_words x)) >>= (λ d. burst d.1 >>= (λ b. fate hops b.1 >>= g d b))) ≡ Ok u → length ds ≡ length path
+unfolding delays
+as_many [] sofar [] hops n x g u small h = refl
+as_many [] sofar (d ∷ ds) hops n x g u small h = absurd (stray hops d (map decimal ds ++ (burst_words n ++ fate_words x)) (g (sofar, decimal d ∷ (map decimal ds ++ (burst_words n ++ fate_words x)))) u (small 0 0 (omega arith)) h)
+as_many (hop ∷ path) sofar [] hops n x g u small h =
+    let read = both_read (number 0 4294967295 (burst_words n ++ fate_words x) >>= (λ d. delays path (sofar ++ d.0 ∷ []) d.1)) _ u h in
+    let one = both_read (number 0 4294967295 (burst_words n ++ fate_words x)) _ read.0 read.1 in
+    absurd (no_delay n (eqb n 1) x one.0 refl one.1)
+as_many (hop ∷ path) sofar (d ∷ ds) hops n x g u small h =
+    let le : d ≤ 4294967295 = let l = small 0 0 (omega arith) in omega (arith, l) in
+    let rest = rw (number_read 4294967295 d (map decimal ds ++ (burst_words n ++ fate_words x)) (lit< tt) le) at h in
+    let len : length ds ≡ length path = as_many path (sofar ++ d ∷ []) ds hops n x g u (λ i e lt. small (suc i) e (omega arith)) rest in
+    omega (arith, len)
+
+burst_range : (n : ℕ) (x : Fate) (y : ℕ × Words) (b : Bool) → eqb n 1 ≡ b → n < 4294967296 → burst (burst_words n ++ fate_words x) ≡ Ok y → (1 ≤ n) × (n ≤ 1000000)
+unfolding burst
+burst_range n x y true e small h = let is : n ≡ 1 = grind arith in (omega arith, omega arith)
+burst_range n x y false e small h = number_range 1 1000000 n (fate_words x) y (omega arith) (lit< tt) (rw e at h)
+
+fate_reached : (hops : ℕ) (x y : Fate) → hops < 2 ^ 64 → IsFateRange x → fate hops (fate_words x) ≡ Ok y → reached x hops ≤ hops
+unfolding fate
+fate_reached hops fates.Straight y few range h = omega arith
+fate_reached hops (fates.Lost k) y few range h =
+    let read = both_read (number 0 hops (decimal k ∷ [])) _ y h in
+    let k_range = number_range 0 hops k [] read.0 (omega (arith, range)) few read.1 in
+    k_range.1
+fate_reached hops fates.Twice y few range h = omega arith
+fate_reached hops fates.Late y few range h = omega arith
