@@ -18,7 +18,7 @@ use Rattle.lg_model.specs.declared.scenario.Fate.TheVariants as fates
 use Rattle.lg_model.specs.declared.scenario.Step.{Step}
 use Rattle.lg_model.specs.declared.scenario.Step.TheVariants as steps
 use Rattle.lg_model.specs.declared.scenario.Ask.{Ask}
-use Rattle.lg_model.specs.Scenario.{Scenario, IsFlow, packet_count, reached}
+use Rattle.lg_model.specs.Scenario.{Scenario, IsFlow, no_flow, packet_count, reached}
 use Rattle.scenario_lines.specs.declared.why.Why.{Why}
 use Rattle.scenario_lines.specs.declared.section.Section.TheVariants.{Declarations, Steps}
 use Rattle.scenario_lines.specs.declared.section.Keyword.TheVariants as words
@@ -27,11 +27,11 @@ use Rattle.scenario_lines.specs.Counts.{names_of, path_at, ends_of}
 use Rattle.scenario_lines.specs.Readable.{AreApart, IsFlowLine}
 use Rattle.scenario_lines.specs.Spelling.{Words, joined, host_words, switch_words, host_names, key_parts, path_words, flow_words, byte_of, link_words, burst_words, fate_words, step_words, ask_words}
 use Rattle.scenario_lines.specs.Draft.{State, IsDraft}
-use Rattle.scenario_lines.specs.Fields.{◌>>=◌, number, word, ended, fresh, known, place, fresh_host, fresh_flow, host_place, room, room_to, room_for_all, hop, path, letters_word, delays, burst, fate}
+use Rattle.scenario_lines.specs.Fields.{◌>>=◌, number, word, ended, fresh, known, place, fresh_host, fresh_flow, host_place, room, room_to, all_room, room_for_all, hop, path, is_letter, letters_word, delays, burst, fate}
 use Rattle.scenario_lines.specs.Line.{host_line, switch_line, flow_line, linked, unlinked, link_line, packet_line, end_one, end_all, end_line, release_line, ask_line, line_of}
 use Rattle.scenario_lines.proofs.ReadableLemmas.{apart_push}
 use Rattle.scenario_lines.proofs.ScenarioLemmas.{host_more, host_linked, switch_more, step_more, ask_more, end_fits, room_at}
-use Rattle.scenario_parts.specs.Parts.{IsFlowRange, IsFateRange, IsStepRange, IsAskRange, IsFlowPlace}
+use Rattle.scenario_parts.specs.Parts.{IsFlowRange, IsFateRange, IsStepRange, IsAskRange, IsFlowPlace, IsStepPlace}
 use Rattle.scenario_text.proofs.WordsAgain.{AreWords, words_append, number_word_is, numbers_are_words, number_read}
 use Rattle.scenario_text.proofs.NamesAgain.{name_found, thing_found, list_any-map}
 use Rattle.scenario_text.proofs.LinesAgain.{at_state, section_of, form_read, bare, host_are_words, host_read, switch_are_words, switch_read, key_read, path_read, path_are_words, flow_are_words_of, FlowFits, flow_read, link_are_words, link_read, get_seam, set_seam, place_seam, later, placed, delays_read, burst_if, PacketFits, packet_read, flow_found, not_word, no_number, end_are_words, end_read, end_all_read, release_read, ask_are_words, ask_read}
@@ -225,8 +225,7 @@ middle b c d e = let two = and_parts (b && c) d e in let both = and_parts b c tw
 few_letters : (ls : List Letter) (x : List Letter × Words) → letters_word (map byte_of ls ∷ []) ≡ Ok x → length ls ≤ 4096
 unfolding letters_word
 few_letters ls x h =
-    let good = if_read _ _ _ _ h in
-    let few : length (map byte_of ls) ≤ 4096 = at_most (length (map byte_of ls)) 4096 (middle _ _ _ good) in
+    let few = at_most (length (map byte_of ls)) 4096 (middle (nat_le 1 (length (map byte_of ls))) (nat_le (length (map byte_of ls)) 4096) (list_all is_letter (map byte_of ls)) (if_read _ _ _ _ h)) in
     omega (arith, few, length-map ls byte_of)
 
 pub link_leads : (w : Scenario) (done rest : List HostLine) (h : HostLine) → IsDraft (at_state Declarations (record w { hosts = done ++ bare h ∷ rest })) → h.name < 65536 → 0 < length h.letters
@@ -311,3 +310,103 @@ fate_reached hops (fates.Lost k) y few range h =
     k_range.1
 fate_reached hops fates.Twice y few range h = omega arith
 fate_reached hops fates.Late y few range h = omega arith
+
+room_left_to : (most held : ℕ) (x : Unit {0}) → room_to most held ≡ Ok x → held ≤ most
+unfolding room_to
+room_left_to most held x h = at_most held most (if_read _ _ _ _ h)
+
+flow_name_small : (w : Scenario) (at : ℕ) → All IsFlowLine w.flows → at < length w.flows → slice_index (names_of w.flows) at < 65536
+flow_name_small w at lines lt = names_small (λ (f : Flow). f.name) w.flows (λ i d l. let line = lines i d l in line.name) at 0 (omega (arith, lt, length-map w.flows (λ (f : Flow). f.name)))
+
+packet_words_are : (name size : ℕ) (ds : List ℕ) (n : ℕ) (x : Fate) → name < 65536 → size < 65536 → All (λ d. d < 4294967296) ds → n < 4294967296 → IsFateRange x → AreWords (codes "packet" ∷ decimal name ∷ decimal size ∷ (map decimal ds ++ (burst_words n ++ fate_words x)))
+packet_words_are name size ds n x named small delays few range =
+    let tail = words_append (burst_words n) (fate_words x) (burst_words_are n (eqb n 1) refl few) (fate_words_are x range) in
+    (refl, (number_word_is name (omega arith), (number_word_is size (omega arith), words_append (map decimal ds) (burst_words n ++ fate_words x) (numbers_are_words ds delays) tail)))
+
+packet_good : (b : Bool) (w : Scenario) (at size : ℕ) (ds : List ℕ) (n : ℕ) (x : Fate) (u : State) → IsDraft (at_state (section_of b) w) → at < length w.flows → IsStepRange (steps.Packet at size ds n x) → line_of (at_state (section_of b) w) (joined (step_words w.flows w.switches (steps.Packet at size ds n x))) ≡ Ok u → PacketFits w at size ds n x
+unfolding keyword_of packet_line place
+packet_good b w at size ds n x u ok lt range line =
+    let name = flow_name_small w at ok.lines.flows lt in
+    let short : length (path_at w.flows at) ≤ 16 = let f = ok.scenario.flows at no_flow lt in f.few_hops in
+    let form = sym (form_read (at_state (section_of b) w) (codes "packet") (decimal (slice_index (names_of w.flows) at) ∷ decimal size ∷ (map decimal ds ++ (burst_words n ++ fate_words x))) words.Packet refl (later b) refl (placed b words.Packet refl refl) (packet_words_are (slice_index (names_of w.flows) at) size ds n x name range.0 range.1 range.2 range.3)) ∙ line in
+    let sized = rw (number_read 65535 (slice_index (names_of w.flows) at) (decimal size ∷ (map decimal ds ++ (burst_words n ++ fate_words x))) (lit< tt) (omega (arith, name)), flow_found w at ok.lines.own_flows lt, number_read 65535 size (map decimal ds ++ (burst_words n ++ fate_words x)) (lit< tt) (omega (arith, range.0))) at form in
+    let hops = as_many (path_at w.flows at) [] ds (length (path_at w.flows at)) n x _ u range.1 sized in
+    let delayed = rw (delays_read (path_at w.flows at) [] ds (burst_words n ++ fate_words x) range.1 hops) at sized in
+    let some = both_read (burst (burst_words n ++ fate_words x)) _ u delayed in
+    let sent = burst_range n x some.0 (eqb n 1) refl range.2 some.1 in
+    let ended = rw (burst_if n x (eqb n 1) refl sent.0 sent.1) at delayed in
+    let last = both_read (fate (length (path_at w.flows at)) (fate_words x)) _ u ended in
+    let room = both_read (room_to 1000000 (packet_count w.steps + n)) _ u last.2 in
+    record {
+      flow = lt;
+      own_flows = ok.lines.own_flows;
+      name = name;
+      small = range.0;
+      hops = hops;
+      short = short;
+      delays = range.1;
+      some = sent.0;
+      fate = fate_reached (length (path_at w.flows at)) x last.0 (omega (arith, short)) range.3 last.1;
+      packets = room_left_to 1000000 (packet_count w.steps + n) room.0 room.1;
+    }
+
+packet_leads : (b : Bool) (w : Scenario) (at size : ℕ) (ds : List ℕ) (n : ℕ) (x : Fate) → IsDraft (at_state (section_of b) w) → at < length w.flows → IsStepRange (steps.Packet at size ds n x) → Leads (at_state (section_of b) w) (step_words w.flows w.switches (steps.Packet at size ds n x)) (at_state Steps (record w { steps = w.steps ++ steps.Packet at size ds n x ∷ [] }))
+packet_leads b w at size ds n x ok lt range = λ u line.
+    let good = packet_good b w at size ds n x u ok lt range line in
+    (packet_read b w at size ds n x good, step_more (at_state (section_of b) w) (w.steps ++ steps.Packet at size ds n x ∷ []) (steps.Packet at size ds n x) ok (lt, good.hops, good.fate) refl good.packets (λ i l. omega (arith, ok.scenario.few_ends i l)) (range.0, range.1, good.some))
+
+end_leads : (b : Bool) (w : Scenario) (at : ℕ) → IsDraft (at_state (section_of b) w) → at < length w.switches → Leads (at_state (section_of b) w) (step_words w.flows w.switches (steps.End at)) (at_state Steps (record w { steps = w.steps ++ steps.End at ∷ [] }))
+unfolding keyword_of end_line end_one place ended
+end_leads b w at ok lt = λ u line.
+    let small : slice_index w.switches at < 65536 = ok.lines.switches at 0 lt in
+    let form = sym (form_read (at_state (section_of b) w) (codes "end") (decimal (slice_index w.switches at) ∷ []) words.End refl (later b) refl (placed b words.End refl refl) (end_are_words (slice_index w.switches at) small)) ∙ line in
+    let found = rw (not_word (slice_index w.switches at) (codes "all") (bytes_eq (decimal (slice_index w.switches at)) (codes "all")) refl small no_number, number_read 65535 (slice_index w.switches at) [] (lit< tt) (omega (arith, small)), name_found w.switches at ok.lines.own_switches lt) at form in
+    let room = both_read (room 65535 (ends_of at w.steps)) _ u found in
+    let few = room_left 65535 (ends_of at w.steps) room.0 room.1 in
+    (end_read b w at lt ok.lines.own_switches small few, step_more (at_state (section_of b) w) (w.steps ++ steps.End at ∷ []) (steps.End at) ok lt refl (omega (arith, ok.scenario.few_packets)) (λ i l. end_fits (at_state (section_of b) w) at i ok few l) tt)
+
+all_have_room : (ts : List Step) (n : ℕ) (x : Unit {0}) → room_for_all ts n ≡ Ok x → all_room ts n ≡ true
+unfolding room_for_all
+all_have_room ts n x h = if_read _ _ _ _ h
+
+end_all_leads : (b : Bool) (w : Scenario) → IsDraft (at_state (section_of b) w) → Leads (at_state (section_of b) w) (step_words w.flows w.switches steps.EndAll) (at_state Steps (record w { steps = w.steps ++ steps.EndAll ∷ [] }))
+unfolding keyword_of end_line end_all ended
+end_all_leads b w ok = λ u line.
+    let form = sym (form_read (at_state (section_of b) w) (codes "end") (codes "all" ∷ []) words.End refl (later b) refl (placed b words.End refl refl) (refl, (refl, tt))) ∙ line in
+    let room = both_read (room_for_all w.steps (length w.switches)) _ u form in
+    let few : (i : ℕ) → i < length w.switches → ends_of i w.steps < 65535 = λ i l. room_at w.steps (length w.switches) i (all_have_room w.steps (length w.switches) room.0 room.1) l in
+    (end_all_read b w few, step_more (at_state (section_of b) w) (w.steps ++ steps.EndAll ∷ []) steps.EndAll ok tt refl (omega (arith, ok.scenario.few_packets)) (λ i l. omega (arith, few i l)) tt)
+
+release_leads : (b : Bool) (w : Scenario) → IsDraft (at_state (section_of b) w) → Leads (at_state (section_of b) w) (step_words w.flows w.switches steps.Release) (at_state Steps (record w { steps = w.steps ++ steps.Release ∷ [] }))
+release_leads b w ok = λ u line. (release_read b w, step_more (at_state (section_of b) w) (w.steps ++ steps.Release ∷ []) steps.Release ok tt refl (omega (arith, ok.scenario.few_packets)) (λ i l. omega (arith, ok.scenario.few_ends i l)) tt)
+
+pub step_leads : (b : Bool) (w : Scenario) (t : Step) → IsDraft (at_state (section_of b) w) → IsStepRange t → IsStepPlace (length w.flows) (length w.switches) t → Leads (at_state (section_of b) w) (step_words w.flows w.switches t) (at_state Steps (record w { steps = w.steps ++ t ∷ [] }))
+step_leads b w (steps.Packet at size ds n x) ok range within = packet_leads b w at size ds n x ok within range
+step_leads b w (steps.End at) ok range within = end_leads b w at ok within
+step_leads b w steps.EndAll ok range within = end_all_leads b w ok
+step_leads b w steps.Release ok range within = release_leads b w ok
+
+pub step_words_are : (w : Scenario) (t : Step) → All IsFlowLine w.flows → All (λ n. n < 65536) w.switches → IsStepRange t → IsStepPlace (length w.flows) (length w.switches) t → AreWords (step_words w.flows w.switches t)
+step_words_are w (steps.Packet at size ds n x) flows switches range within = packet_words_are (slice_index (names_of w.flows) at) size ds n x (flow_name_small w at flows within) range.0 range.1 range.2 range.3
+step_words_are w (steps.End at) flows switches range within = end_are_words (slice_index w.switches at) (switches at 0 within)
+step_words_are w steps.EndAll flows switches range within = (refl, (refl, tt))
+step_words_are w steps.Release flows switches range within = (refl, tt)
+
+-- ---- asks
+
+declared : (names : List ℕ) (n : ℕ) (x : Unit {0}) → known names n ≡ Ok x → list_any (λ m. eqb m n) names ≡ true
+unfolding known
+declared names n x h = if_read _ _ _ _ h
+
+pub ask_leads : (b : Bool) (w : Scenario) (q : Ask) → IsDraft (at_state (section_of b) w) → IsAskRange q → q.flow_at < length w.flows → Leads (at_state (section_of b) w) (ask_words w.flows q) (at_state Steps (record w { asks = w.asks ++ q ∷ [] }))
+unfolding keyword_of ask_line place ended
+ask_leads b w q ok range lt = λ u line.
+    let name = flow_name_small w q.flow_at ok.lines.flows lt in
+    let form = sym (form_read (at_state (section_of b) w) (codes "ask") (decimal (slice_index (names_of w.flows) q.flow_at) ∷ decimal q.switch ∷ decimal q.epoch ∷ []) words.Ask refl (later b) refl (placed b words.Ask refl refl) (ask_are_words w q name range.0 range.1)) ∙ line in
+    let found = rw (number_read 65535 (slice_index (names_of w.flows) q.flow_at) (decimal q.switch ∷ decimal q.epoch ∷ []) (lit< tt) (omega (arith, name)), flow_found w q.flow_at ok.lines.own_flows lt, number_read 65535 q.switch (decimal q.epoch ∷ []) (lit< tt) (omega (arith, range.0))) at form in
+    let here = both_read (known w.switches q.switch) _ u found in
+    let timed = rw (number_read 4294967295 q.epoch [] (lit< tt) (omega (arith, range.1))) at here.2 in
+    let room = both_read (room 10000 (length w.asks)) _ u timed in
+    let is = declared w.switches q.switch here.0 here.1 in
+    let few = room_left 10000 (length w.asks) room.0 room.1 in
+    (ask_read b w q lt ok.lines.own_flows name is range.0 range.1 few, ask_more (at_state (section_of b) w) (w.asks ++ q ∷ []) q ok lt refl (record { declared = is; switch = range.0; epoch = range.1 }) few)
