@@ -37,9 +37,9 @@ use Rattle.scenario_text.proofs.NamesAgain.{name_found, thing_found, list_any-ma
 use Rattle.scenario_text.proofs.LinesAgain.{at_state, section_of, form_read, bare, host_are_words, host_read, switch_are_words, switch_read, key_read, path_read, path_are_words, flow_are_words_of, FlowFits, flow_read, link_are_words, link_read, get_seam, set_seam, place_seam, later, placed, delays_read, burst_if, PacketFits, packet_read, flow_found, not_word, no_number, end_are_words, end_read, end_all_read, release_read, ask_are_words, ask_read}
 use Rattle.scenario_text.proofs.TextAgain.{names_small, things_fresh}
 
--- Where the line of these words is read at all, it leads to this state, and its parts fit each other.
+-- The words can make a line, and where that line is read at all, it leads to this state, and its parts fit each other.
 abbrev pub Leads : State → Words → State → Type 0
-Leads s ws t = (u : State) → line_of s (joined ws) ≡ Ok u → (line_of s (joined ws) ≡ Ok t) × IsDraft t
+Leads s ws t = AreWords ws × ((u : State) → line_of s (joined ws) ≡ Ok u → (line_of s (joined ws) ≡ Ok t) × IsDraft t)
 
 -- ---- what was read of two fields, and of a test
 
@@ -95,25 +95,25 @@ new_name names n x h = let r = unless_read _ _ _ _ h in r.0
 
 pub host_leads : (w : Scenario) (h : HostLine) → IsDraft (at_state Declarations w) → h.name < 65536 → Leads (at_state Declarations w) (host_words h) (at_state Declarations (record w { hosts = w.hosts ++ bare h ∷ [] }))
 unfolding keyword_of host_line ended
-host_leads w h ok small = λ u line.
+host_leads w h ok small = (host_are_words h small, λ u line.
     let form = sym (form_read (at_state Declarations w) (codes "host") (decimal h.name ∷ []) words.Host refl refl refl refl (host_are_words h small)) ∙ line in
     let named = rw (number_read 65535 h.name [] (lit< tt) (omega arith)) at form in
     let fresh = both_read _ _ u named in
     let room = both_read _ _ u fresh.2 in
     let new = new_host w.hosts h.name fresh.0 fresh.1 in
     let few = room_left 64 (length w.hosts) room.0 room.1 in
-    (host_read w h small new few, host_more (at_state Declarations w) (w.hosts ++ bare h ∷ []) (bare h) ok refl few (record { name = small; few_letters = omega arith }) new)
+    (host_read w h small new few, host_more (at_state Declarations w) (w.hosts ++ bare h ∷ []) (bare h) ok refl few (record { name = small; few_letters = omega arith }) new))
 
 pub switch_leads : (w : Scenario) (n : ℕ) → IsDraft (at_state Declarations w) → n < 65536 → Leads (at_state Declarations w) (switch_words n) (at_state Declarations (record w { switches = w.switches ++ n ∷ [] }))
 unfolding keyword_of switch_line ended
-switch_leads w n ok small = λ u line.
+switch_leads w n ok small = (switch_are_words n small, λ u line.
     let form = sym (form_read (at_state Declarations w) (codes "switch") (decimal n ∷ []) words.Switch refl refl refl refl (switch_are_words n small)) ∙ line in
     let named = rw (number_read 65535 n [] (lit< tt) (omega arith)) at form in
     let fresh = both_read _ _ u named in
     let room = both_read _ _ u fresh.2 in
     let new = new_name w.switches n fresh.0 fresh.1 in
     let few = room_left 64 (length w.switches) room.0 room.1 in
-    (switch_read w n small new few, switch_more (at_state Declarations w) (w.switches ++ n ∷ []) n ok refl refl few small new)
+    (switch_read w n small new few, switch_more (at_state Declarations w) (w.switches ++ n ∷ []) n ok refl refl few small new))
 
 -- ---- flows
 
@@ -193,29 +193,39 @@ flow_draft w f ok fits line new few =
 
 pub flow_leads : (w : Scenario) (hosts : List HostLine) (f : Flow) → IsDraft (at_state Declarations w) → host_names w.hosts ≡ host_names hosts → IsFlowRange f → IsFlowPlace (length w.hosts) (length w.switches) f → Leads (at_state Declarations w) (flow_words hosts w.switches f) (at_state Declarations (record w { flows = w.flows ++ f ∷ [] }))
 unfolding keyword_of flow_line host_place word
-flow_leads w hosts f ok names range within = λ u line.
-    let host : slice_index (host_names w.hosts) f.host_at < 65536 = names_small (λ (g : HostLine). g.name) w.hosts (λ i d lt. let l = ok.lines.hosts i d lt in l.name) f.host_at 0 (omega (arith, within.0, length-map w.hosts (λ (g : HostLine). g.name))) in
-    let words_ok = flow_are_words_of w.switches f (slice_index (host_names hosts) f.host_at) (rw names at host) range.0 range.1 (path_are_words w.switches f.path ok.lines.switches within.1) in
-    let form = sym (form_read (at_state Declarations w) (codes "flow") (decimal f.name ∷ key_parts f.key (codes "host" ∷ decimal (slice_index (host_names hosts) f.host_at) ∷ codes "path" ∷ path_words w.switches f.path)) words.Flow refl refl refl refl words_ok) ∙ line in
-    let here = rw (← names) at form in
-    let named = rw (number_read 65535 f.name (key_parts f.key (codes "host" ∷ decimal (slice_index (host_names w.hosts) f.host_at) ∷ codes "path" ∷ path_words w.switches f.path)) (lit< tt) (omega (arith, range.0))) at here in
-    let fresh = both_read (fresh_flow w.flows f.name) _ u named in
-    let keyed = rw (key_read f.key (codes "host" ∷ decimal (slice_index (host_names w.hosts) f.host_at) ∷ codes "path" ∷ path_words w.switches f.path) range.1, number_read 65535 (slice_index (host_names w.hosts) f.host_at) (codes "path" ∷ path_words w.switches f.path) (lit< tt) (omega (arith, host)), thing_found (λ (g : HostLine). g.name) w.hosts f.host_at ok.lines.own_hosts within.0) at fresh.2 in
-    let hops = both_read (path w.switches [] (path_words w.switches f.path)) _ u keyed in
-    let room = both_read (room 4096 (length w.flows)) _ u hops.2 in
-    let path = path_good w.switches [] f.path hops.0 ok.lines.own_switches ok.lines.switches within.1 (λ i j d less lt. absurd (omega (arith, lt))) (omega arith) hops.1 in
-    let good : FlowFits w hosts f = record {
-      names = names;
-      fits = record { host = within.0; path = within.1; some_hops = omega (arith, path.2); few_hops = omega (arith, path.1) };
-      line = record { name = range.0; key = range.1; once = path.0 };
-      own_hosts = ok.lines.own_hosts;
-      host_name = host;
-      own_switches = ok.lines.own_switches;
-      small_switches = ok.lines.switches;
-      new_flow = new_flow w.flows f.name fresh.0 fresh.1;
-      room_left = room_left 4096 (length w.flows) room.0 room.1;
-    } in
-    (flow_read w hosts f good, flow_draft w f ok good.fits good.line good.new_flow good.room_left)
+flow_leads w hosts f ok names range within = (words_ok, read) where
+  host : slice_index (host_names w.hosts) f.host_at < 65536
+  host = names_small (λ (g : HostLine). g.name) w.hosts (λ i d lt. let l = ok.lines.hosts i d lt in l.name) f.host_at 0 (omega (arith, within.0, length-map w.hosts (λ (g : HostLine). g.name)))
+
+  words_ok : AreWords (flow_words hosts w.switches f)
+  words_ok = flow_are_words_of w.switches f (slice_index (host_names hosts) f.host_at) (rw names at host) range.0 range.1 (path_are_words w.switches f.path ok.lines.switches within.1)
+
+  good : (u : State) → flow_line (at_state Declarations w) (decimal f.name ∷ key_parts f.key (codes "host" ∷ decimal (slice_index (host_names w.hosts) f.host_at) ∷ codes "path" ∷ path_words w.switches f.path)) ≡ Ok u → FlowFits w hosts f
+  good u line =
+      let at_host = codes "host" ∷ decimal (slice_index (host_names w.hosts) f.host_at) ∷ codes "path" ∷ path_words w.switches f.path in
+      let named = rw (number_read 65535 f.name (key_parts f.key at_host) (lit< tt) (omega (arith, range.0))) at line in
+      let fresh = both_read (fresh_flow w.flows f.name) _ u named in
+      let keyed = rw (key_read f.key at_host range.1, number_read 65535 (slice_index (host_names w.hosts) f.host_at) (codes "path" ∷ path_words w.switches f.path) (lit< tt) (omega (arith, host)), thing_found (λ (g : HostLine). g.name) w.hosts f.host_at ok.lines.own_hosts within.0) at fresh.2 in
+      let hops = both_read (path w.switches [] (path_words w.switches f.path)) _ u keyed in
+      let room = both_read (room 4096 (length w.flows)) _ u hops.2 in
+      let path = path_good w.switches [] f.path hops.0 ok.lines.own_switches ok.lines.switches within.1 (λ i j d less lt. absurd (omega (arith, lt))) (omega arith) hops.1 in
+      record {
+        names = names;
+        fits = record { host = within.0; path = within.1; some_hops = omega (arith, path.2); few_hops = omega (arith, path.1) };
+        line = record { name = range.0; key = range.1; once = path.0 };
+        own_hosts = ok.lines.own_hosts;
+        host_name = host;
+        own_switches = ok.lines.own_switches;
+        small_switches = ok.lines.switches;
+        new_flow = new_flow w.flows f.name fresh.0 fresh.1;
+        room_left = room_left 4096 (length w.flows) room.0 room.1;
+      }
+
+  read : (u : State) → line_of (at_state Declarations w) (joined (flow_words hosts w.switches f)) ≡ Ok u → (line_of (at_state Declarations w) (joined (flow_words hosts w.switches f)) ≡ Ok (at_state Declarations (record w { flows = w.flows ++ f ∷ [] }))) × IsDraft (at_state Declarations (record w { flows = w.flows ++ f ∷ [] }))
+  read u line =
+      let form = sym (form_read (at_state Declarations w) (codes "flow") (decimal f.name ∷ key_parts f.key (codes "host" ∷ decimal (slice_index (host_names hosts) f.host_at) ∷ codes "path" ∷ path_words w.switches f.path)) words.Flow refl refl refl refl words_ok) ∙ line in
+      let fit = good u (rw (← names) at form) in
+      (flow_read w hosts f fit, flow_draft w f ok fit.fits fit.line fit.new_flow fit.room_left)
 
 -- ---- letters
 
@@ -231,14 +241,14 @@ few_letters ls x h =
 pub link_leads : (w : Scenario) (done rest : List HostLine) (h : HostLine) → IsDraft (at_state Declarations (record w { hosts = done ++ bare h ∷ rest })) → h.name < 65536 → 0 < length h.letters
     → Leads (at_state Declarations (record w { hosts = done ++ bare h ∷ rest })) (link_words h) (at_state Declarations (record w { hosts = done ++ h ∷ rest }))
 unfolding keyword_of link_line host_place unlinked ended
-link_leads w done rest h ok small some = λ u line.
+link_leads w done rest h ok small some = (link_are_words h small, λ u line.
     let new : list_any (λ g. eqb g.name h.name) done ≡ false = sym (list_any-map (λ m. eqb m h.name) (λ (g : HostLine). g.name) done) ∙ things_fresh (λ (g : HostLine). g.name) done rest (bare h) ok.lines.own_hosts in
     let form = sym (form_read (at_state Declarations (record w { hosts = done ++ bare h ∷ rest })) (codes "link") (decimal h.name ∷ map byte_of h.letters ∷ []) words.Link refl refl refl refl (link_are_words h small)) ∙ line in
     let named = rw (number_read 65535 h.name (map byte_of h.letters ∷ []) (lit< tt) (omega arith), place_seam done rest h new, get_seam done rest (bare h)) at form in
     let letters = both_read _ _ u named in
     let few = few_letters h.letters letters.0 letters.1 in
     let is : done ++ h ∷ rest ≡ linked (done ++ bare h ∷ rest) (length done) h.letters = rw (get_seam done rest (bare h)) (sym (set_seam done rest (bare h) h)) in
-    (link_read w done rest h small some few new, host_linked (at_state Declarations (record w { hosts = done ++ bare h ∷ rest })) (done ++ h ∷ rest) (length done) h.letters ok is few)
+    (link_read w done rest h small some few new, host_linked (at_state Declarations (record w { hosts = done ++ bare h ∷ rest })) (done ++ h ∷ rest) (length done) h.letters ok is few))
 
 -- ---- steps
 
@@ -351,19 +361,18 @@ packet_good b w at size ds n x u ok lt range line =
     }
 
 packet_leads : (b : Bool) (w : Scenario) (at size : ℕ) (ds : List ℕ) (n : ℕ) (x : Fate) → IsDraft (at_state (section_of b) w) → at < length w.flows → IsStepRange (steps.Packet at size ds n x) → Leads (at_state (section_of b) w) (step_words w.flows w.switches (steps.Packet at size ds n x)) (at_state Steps (record w { steps = w.steps ++ steps.Packet at size ds n x ∷ [] }))
-packet_leads b w at size ds n x ok lt range = λ u line.
+packet_leads b w at size ds n x ok lt range = (packet_words_are (slice_index (names_of w.flows) at) size ds n x (flow_name_small w at ok.lines.flows lt) range.0 range.1 range.2 range.3, λ u line.
     let good = packet_good b w at size ds n x u ok lt range line in
-    (packet_read b w at size ds n x good, step_more (at_state (section_of b) w) (w.steps ++ steps.Packet at size ds n x ∷ []) (steps.Packet at size ds n x) ok (lt, good.hops, good.fate) refl good.packets (λ i l. omega (arith, ok.scenario.few_ends i l)) (range.0, range.1, good.some))
+    (packet_read b w at size ds n x good, step_more (at_state (section_of b) w) (w.steps ++ steps.Packet at size ds n x ∷ []) (steps.Packet at size ds n x) ok (lt, good.hops, good.fate) refl good.packets (λ i l. omega (arith, ok.scenario.few_ends i l)) (range.0, range.1, good.some)))
 
 end_leads : (b : Bool) (w : Scenario) (at : ℕ) → IsDraft (at_state (section_of b) w) → at < length w.switches → Leads (at_state (section_of b) w) (step_words w.flows w.switches (steps.End at)) (at_state Steps (record w { steps = w.steps ++ steps.End at ∷ [] }))
 unfolding keyword_of end_line end_one place ended
-end_leads b w at ok lt = λ u line.
-    let small : slice_index w.switches at < 65536 = ok.lines.switches at 0 lt in
+end_leads b w at ok lt = let small : slice_index w.switches at < 65536 = ok.lines.switches at 0 lt in (end_are_words (slice_index w.switches at) small, λ u line.
     let form = sym (form_read (at_state (section_of b) w) (codes "end") (decimal (slice_index w.switches at) ∷ []) words.End refl (later b) refl (placed b words.End refl refl) (end_are_words (slice_index w.switches at) small)) ∙ line in
     let found = rw (not_word (slice_index w.switches at) (codes "all") (bytes_eq (decimal (slice_index w.switches at)) (codes "all")) refl small no_number, number_read 65535 (slice_index w.switches at) [] (lit< tt) (omega (arith, small)), name_found w.switches at ok.lines.own_switches lt) at form in
     let room = both_read (room 65535 (ends_of at w.steps)) _ u found in
     let few = room_left 65535 (ends_of at w.steps) room.0 room.1 in
-    (end_read b w at lt ok.lines.own_switches small few, step_more (at_state (section_of b) w) (w.steps ++ steps.End at ∷ []) (steps.End at) ok lt refl (omega (arith, ok.scenario.few_packets)) (λ i l. end_fits (at_state (section_of b) w) at i ok few l) tt)
+    (end_read b w at lt ok.lines.own_switches small few, step_more (at_state (section_of b) w) (w.steps ++ steps.End at ∷ []) (steps.End at) ok lt refl (omega (arith, ok.scenario.few_packets)) (λ i l. end_fits (at_state (section_of b) w) at i ok few l) tt))
 
 all_have_room : (ts : List Step) (n : ℕ) (x : Unit {0}) → room_for_all ts n ≡ Ok x → all_room ts n ≡ true
 unfolding room_for_all
@@ -371,26 +380,20 @@ all_have_room ts n x h = if_read _ _ _ _ h
 
 end_all_leads : (b : Bool) (w : Scenario) → IsDraft (at_state (section_of b) w) → Leads (at_state (section_of b) w) (step_words w.flows w.switches steps.EndAll) (at_state Steps (record w { steps = w.steps ++ steps.EndAll ∷ [] }))
 unfolding keyword_of end_line end_all ended
-end_all_leads b w ok = λ u line.
+end_all_leads b w ok = ((refl, (refl, tt)), λ u line.
     let form = sym (form_read (at_state (section_of b) w) (codes "end") (codes "all" ∷ []) words.End refl (later b) refl (placed b words.End refl refl) (refl, (refl, tt))) ∙ line in
     let room = both_read (room_for_all w.steps (length w.switches)) _ u form in
     let few : (i : ℕ) → i < length w.switches → ends_of i w.steps < 65535 = λ i l. room_at w.steps (length w.switches) i (all_have_room w.steps (length w.switches) room.0 room.1) l in
-    (end_all_read b w few, step_more (at_state (section_of b) w) (w.steps ++ steps.EndAll ∷ []) steps.EndAll ok tt refl (omega (arith, ok.scenario.few_packets)) (λ i l. omega (arith, few i l)) tt)
+    (end_all_read b w few, step_more (at_state (section_of b) w) (w.steps ++ steps.EndAll ∷ []) steps.EndAll ok tt refl (omega (arith, ok.scenario.few_packets)) (λ i l. omega (arith, few i l)) tt))
 
 release_leads : (b : Bool) (w : Scenario) → IsDraft (at_state (section_of b) w) → Leads (at_state (section_of b) w) (step_words w.flows w.switches steps.Release) (at_state Steps (record w { steps = w.steps ++ steps.Release ∷ [] }))
-release_leads b w ok = λ u line. (release_read b w, step_more (at_state (section_of b) w) (w.steps ++ steps.Release ∷ []) steps.Release ok tt refl (omega (arith, ok.scenario.few_packets)) (λ i l. omega (arith, ok.scenario.few_ends i l)) tt)
+release_leads b w ok = ((refl, tt), λ u line. (release_read b w, step_more (at_state (section_of b) w) (w.steps ++ steps.Release ∷ []) steps.Release ok tt refl (omega (arith, ok.scenario.few_packets)) (λ i l. omega (arith, ok.scenario.few_ends i l)) tt))
 
 pub step_leads : (b : Bool) (w : Scenario) (t : Step) → IsDraft (at_state (section_of b) w) → IsStepRange t → IsStepPlace (length w.flows) (length w.switches) t → Leads (at_state (section_of b) w) (step_words w.flows w.switches t) (at_state Steps (record w { steps = w.steps ++ t ∷ [] }))
 step_leads b w (steps.Packet at size ds n x) ok range within = packet_leads b w at size ds n x ok within range
 step_leads b w (steps.End at) ok range within = end_leads b w at ok within
 step_leads b w steps.EndAll ok range within = end_all_leads b w ok
 step_leads b w steps.Release ok range within = release_leads b w ok
-
-pub step_words_are : (w : Scenario) (t : Step) → All IsFlowLine w.flows → All (λ n. n < 65536) w.switches → IsStepRange t → IsStepPlace (length w.flows) (length w.switches) t → AreWords (step_words w.flows w.switches t)
-step_words_are w (steps.Packet at size ds n x) flows switches range within = packet_words_are (slice_index (names_of w.flows) at) size ds n x (flow_name_small w at flows within) range.0 range.1 range.2 range.3
-step_words_are w (steps.End at) flows switches range within = end_are_words (slice_index w.switches at) (switches at 0 within)
-step_words_are w steps.EndAll flows switches range within = (refl, (refl, tt))
-step_words_are w steps.Release flows switches range within = (refl, tt)
 
 -- ---- asks
 
@@ -400,8 +403,7 @@ declared names n x h = if_read _ _ _ _ h
 
 pub ask_leads : (b : Bool) (w : Scenario) (q : Ask) → IsDraft (at_state (section_of b) w) → IsAskRange q → q.flow_at < length w.flows → Leads (at_state (section_of b) w) (ask_words w.flows q) (at_state Steps (record w { asks = w.asks ++ q ∷ [] }))
 unfolding keyword_of ask_line place ended
-ask_leads b w q ok range lt = λ u line.
-    let name = flow_name_small w q.flow_at ok.lines.flows lt in
+ask_leads b w q ok range lt = let name = flow_name_small w q.flow_at ok.lines.flows lt in (ask_are_words w q name range.0 range.1, λ u line.
     let form = sym (form_read (at_state (section_of b) w) (codes "ask") (decimal (slice_index (names_of w.flows) q.flow_at) ∷ decimal q.switch ∷ decimal q.epoch ∷ []) words.Ask refl (later b) refl (placed b words.Ask refl refl) (ask_are_words w q name range.0 range.1)) ∙ line in
     let found = rw (number_read 65535 (slice_index (names_of w.flows) q.flow_at) (decimal q.switch ∷ decimal q.epoch ∷ []) (lit< tt) (omega (arith, name)), flow_found w q.flow_at ok.lines.own_flows lt, number_read 65535 q.switch (decimal q.epoch ∷ []) (lit< tt) (omega (arith, range.0))) at form in
     let here = both_read (known w.switches q.switch) _ u found in
@@ -409,4 +411,4 @@ ask_leads b w q ok range lt = λ u line.
     let room = both_read (room 10000 (length w.asks)) _ u timed in
     let is = declared w.switches q.switch here.0 here.1 in
     let few = room_left 10000 (length w.asks) room.0 room.1 in
-    (ask_read b w q lt ok.lines.own_flows name is range.0 range.1 few, ask_more (at_state (section_of b) w) (w.asks ++ q ∷ []) q ok lt refl (record { declared = is; switch = range.0; epoch = range.1 }) few)
+    (ask_read b w q lt ok.lines.own_flows name is range.0 range.1 few, ask_more (at_state (section_of b) w) (w.asks ++ q ∷ []) q ok lt refl (record { declared = is; switch = range.0; epoch = range.1 }) few))

@@ -10,3 +10,4 @@ pub mod NamesAgain
 pub mod LinesAgain
 pub mod TextAgain
 pub mod GoodLines
+pub mod GoodText

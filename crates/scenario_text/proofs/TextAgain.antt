@@ -98,7 +98,7 @@ switch_one w h hosts done rest n more is then =
     let few : length done < 64 = omega (arith, ap length is, length-append done (n ∷ rest), h.fits.few_switches) in
     before (at_state Declarations (so_far w hosts done [] [] [])) (at_state Declarations (so_far w hosts (done ++ n ∷ []) [] [] [])) (switch_words n) more w (switch_are_words n small) (switch_read (so_far w hosts done [] [] []) n small new few) refl then
 
-bare_names : (hosts : List HostLine) → host_names (map bare hosts) ≡ host_names hosts
+pub bare_names : (hosts : List HostLine) → host_names (map bare hosts) ≡ host_names hosts
 bare_names [] = refl
 bare_names (h ∷ hosts) = ap (λ (ns : List ℕ). h.name ∷ ns) (bare_names hosts)
 
@@ -120,7 +120,7 @@ flow_one w h done rest f more is then =
     } in
     before (at_state Declarations (so_far w (map bare w.hosts) w.switches done [] [])) (at_state Declarations (so_far w (map bare w.hosts) w.switches (done ++ f ∷ []) [] [])) (flow_words w.hosts w.switches f) more w (flow_are_words (so_far w (map bare w.hosts) w.switches done [] []) w.hosts f good) (flow_read (so_far w (map bare w.hosts) w.switches done [] []) w.hosts f good) refl then
 
-no_letters : {X : Type 0} (ls : List X) → length ls ≡ 0 → [] ≡ ls
+pub no_letters : {X : Type 0} (ls : List X) → length ls ≡ 0 → [] ≡ ls
 no_letters [] e = refl
 no_letters (l ∷ ls) e = absurd (omega arith)
 
@@ -152,11 +152,11 @@ abbrev pub some : {X : Type 0} → List X → Bool
 some [] = false
 some (x ∷ xs) = true
 
-some_push : {X : Type 0} (xs : List X) (x : X) → some (xs ++ x ∷ []) ≡ true
+pub some_push : {X : Type 0} (xs : List X) (x : X) → some (xs ++ x ∷ []) ≡ true
 some_push [] x = refl
 some_push (y ∷ ys) x = refl
 
-or_some : (b : Bool) → (b || true) ≡ true
+pub or_some : (b : Bool) → (b || true) ≡ true
 or_some true = refl
 or_some false = refl
 
