@@ -207,18 +207,18 @@ flow_leads w hosts f ok names range within = (words_ok, read) where
       let fresh = both_read (fresh_flow w.flows f.name) _ u named in
       let keyed = rw (key_read f.key at_host range.1, number_read 65535 (slice_index (host_names w.hosts) f.host_at) (codes "path" ∷ path_words w.switches f.path) (lit< tt) (omega (arith, host)), thing_found (λ (g : HostLine). g.name) w.hosts f.host_at ok.lines.own_hosts within.0) at fresh.2 in
       let hops = both_read (path w.switches [] (path_words w.switches f.path)) _ u keyed in
-      let room = both_read (room 4096 (length w.flows)) _ u hops.2 in
-      let path = path_good w.switches [] f.path hops.0 ok.lines.own_switches ok.lines.switches within.1 (λ i j d less lt. absurd (omega (arith, lt))) (omega arith) hops.1 in
+      let fits = both_read (room 4096 (length w.flows)) _ u hops.2 in
+      let way = path_good w.switches [] f.path hops.0 ok.lines.own_switches ok.lines.switches within.1 (λ i j d less lt. absurd (omega (arith, lt))) (omega arith) hops.1 in
       record {
         names = names;
-        fits = record { host = within.0; path = within.1; some_hops = omega (arith, path.2); few_hops = omega (arith, path.1) };
-        line = record { name = range.0; key = range.1; once = path.0 };
+        fits = record { host = within.0; path = within.1; some_hops = omega (arith, way.2); few_hops = omega (arith, way.1) };
+        line = record { name = range.0; key = range.1; once = way.0 };
         own_hosts = ok.lines.own_hosts;
         host_name = host;
         own_switches = ok.lines.own_switches;
         small_switches = ok.lines.switches;
         new_flow = new_flow w.flows f.name fresh.0 fresh.1;
-        room_left = room_left 4096 (length w.flows) room.0 room.1;
+        room_left = room_left 4096 (length w.flows) fits.0 fits.1;
       }
 
   read : (u : State) → line_of (at_state Declarations w) (joined (flow_words hosts w.switches f)) ≡ Ok u → (line_of (at_state Declarations w) (joined (flow_words hosts w.switches f)) ≡ Ok (at_state Declarations (record w { flows = w.flows ++ f ∷ [] }))) × IsDraft (at_state Declarations (record w { flows = w.flows ++ f ∷ [] }))

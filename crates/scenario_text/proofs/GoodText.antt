@@ -12,10 +12,13 @@ use Rattle.lg_model.specs.declared.scenario.HostLine.{HostLine}
 use Rattle.lg_model.specs.declared.scenario.Flow.{Flow}
 use Rattle.lg_model.specs.declared.scenario.Step.{Step}
 use Rattle.lg_model.specs.declared.scenario.Ask.{Ask}
+use Rattle.lg_model.specs.Placing.{IsShape}
 use Rattle.lg_model.specs.Scenario.{Scenario}
 use Rattle.scenario_lines.specs.declared.why.Why.{Why}
+use Rattle.scenario_lines.specs.declared.section.Section.{Section}
 use Rattle.scenario_lines.specs.declared.section.Section.TheVariants.{First, Second, Third, Declarations, Steps, Done}
 use Rattle.scenario_lines.specs.Sections.{is_done}
+use Rattle.scenario_lines.specs.Readable.{IsHash, IsPick}
 use Rattle.scenario_lines.specs.Spelling.{Words, joined, line_text, guardian_words, shape_words, pick_line_words, host_words, switch_words, flow_words, link_words, step_words, ask_words, done_words}
 use Rattle.scenario_lines.specs.Draft.{State, start, scenario_of, IsDraft}
 use Rattle.scenario_lines.specs.Line.{line_of}
@@ -183,3 +186,101 @@ asks_pass w ranges places = rw (no_or (some w.steps)) at (each_passes (λ done r
   one done rest q is = rw (some_push done q, or_some (some w.steps))
       (line_passes (at_state (section_of (some w.steps || some done)) (so_far w w.hosts w.switches w.flows w.steps done)) (at_state Steps (so_far w w.hosts w.switches w.flows w.steps (done ++ q ∷ []))) (ask_words w.flows q) refl
       (λ ok. ask_leads (some w.steps || some done) (so_far w w.hosts w.switches w.flows w.steps done) q ok (seam IsAskRange w.asks done rest q is ranges.asks) (seam (λ a. a.flow_at < length w.flows) w.asks done rest q is places.asks)))
+
+-- ---- the whole text
+
+-- Before the declarations only the shape and the pick have ranges.
+none_declared : (w : Scenario) (x : Section) → IsShape w.shape.rows w.shape.width → IsHash w.shape.hash → IsPick w.pick → IsDraft (at_state x (so_far w [] [] [] [] []))
+none_declared w x shape hash pick = record {
+  scenario = record {
+    shape = shape;
+    few_hosts = omega arith;
+    few_switches = omega arith;
+    flows = λ i d lt. absurd (omega (arith, lt));
+    steps = λ i d lt. absurd (omega (arith, lt));
+    asks = λ i d lt. absurd (omega (arith, lt));
+    few_packets = omega arith;
+    few_ends = λ i lt. omega arith;
+  };
+  lines = record {
+    hash = hash;
+    pick = pick;
+    hosts = λ i d lt. absurd (omega (arith, lt));
+    own_hosts = λ i j d less lt. absurd (omega (arith, lt));
+    switches = λ i d lt. absurd (omega (arith, lt));
+    own_switches = λ i j d less lt. absurd (omega (arith, lt));
+    few_flows = omega arith;
+    flows = λ i d lt. absurd (omega (arith, lt));
+    own_flows = λ i j d less lt. absurd (omega (arith, lt));
+    steps = λ i d lt. absurd (omega (arith, lt));
+    few_asks = omega arith;
+    asks = λ i d lt. absurd (omega (arith, lt));
+  };
+  no_steps = λ e. refl;
+}
+
+start_draft : IsDraft start
+start_draft = none_declared (scenario_of start) First (record { some_rows = omega arith; few_rows = omega arith; some_width = omega arith; few_width = omega arith }) tt tt
+
+first_pass : (w : Scenario) → AreRanges w → Passes start (first_text w) (at_state Declarations (so_far w [] [] [] [] []))
+first_pass w ranges =
+    let w0 = scenario_of start in
+    let w1 : Scenario = record w0 { shape = w.shape } in
+    let third = line_passes (at_state Third w1) (at_state Declarations (so_far w [] [] [] [] [])) (pick_line_words w.pick) refl (λ ok. (pick_are_words w.pick ranges.pick, λ u line. (pick_read w1 w.pick ranges.pick, none_declared w Declarations ranges.shape ranges.hash ranges.pick))) in
+    let second = line_passes (at_state Second w0) (at_state Third w1) (shape_words w.shape) refl (λ ok. (shape_are_words w.shape ranges.shape ranges.hash, λ u line. (shape_read w0 w.shape ranges.shape ranges.hash, none_declared w1 Third ranges.shape ranges.hash tt))) in
+    let one = line_passes start (at_state Second w0) guardian_words refl (λ ok. ((refl, (refl, tt)), λ u line. (guardian_read w0, none_declared w0 Second ok.scenario.shape tt tt))) in
+    both start (at_state Second w0) (at_state Declarations (so_far w [] [] [] [] [])) (line_text guardian_words) (line_text (shape_words w.shape) ++ line_text (pick_line_words w.pick)) one
+    (both (at_state Second w0) (at_state Third w1) (at_state Declarations (so_far w [] [] [] [] [])) (line_text (shape_words w.shape)) (line_text (pick_line_words w.pick)) second third)
+
+declared_pass : (w : Scenario) → AreRanges w → ArePlaces w → Passes (at_state Declarations (so_far w [] [] [] [] [])) (declared_text w) (at_state Declarations (so_far w w.hosts w.switches w.flows [] []))
+declared_pass w ranges places =
+    let bares = map bare w.hosts in
+    let none = at_state Declarations (so_far w [] [] [] [] []) in
+    let hosts = at_state Declarations (so_far w bares [] [] [] []) in
+    let switches = at_state Declarations (so_far w bares w.switches [] [] []) in
+    let flows = at_state Declarations (so_far w bares w.switches w.flows [] []) in
+    let links = at_state Declarations (so_far w w.hosts w.switches w.flows [] []) in
+    both none hosts links (lines_text host_words w.hosts) (lines_text switch_words w.switches ++ (lines_text (flow_words w.hosts w.switches) w.flows ++ flat_map link_text w.hosts)) (hosts_pass w ranges)
+    (both hosts switches links (lines_text switch_words w.switches) (lines_text (flow_words w.hosts w.switches) w.flows ++ flat_map link_text w.hosts) (switches_pass w bares ranges)
+    (both switches flows links (lines_text (flow_words w.hosts w.switches) w.flows) (flat_map link_text w.hosts) (flows_pass w ranges places) (links_pass w ranges)))
+
+-- All before the last line.
+undone_text : Scenario → List ℕ
+undone_text w = first_text w ++ (declared_text w ++ (lines_text (step_words w.flows w.switches) w.steps ++ lines_text (ask_words w.flows) w.asks))
+
+undone_pass : (w : Scenario) → AreRanges w → ArePlaces w → Passes start (undone_text w) (at_state (section_of (some w.steps || some w.asks)) w)
+unfolding undone_text
+undone_pass w ranges places =
+    let first = at_state Declarations (so_far w [] [] [] [] []) in
+    let declared = at_state Declarations (so_far w w.hosts w.switches w.flows [] []) in
+    let stepped = at_state (section_of (some w.steps)) (so_far w w.hosts w.switches w.flows w.steps []) in
+    let all = at_state (section_of (some w.steps || some w.asks)) w in
+    let steps = lines_text (step_words w.flows w.switches) w.steps in
+    let asks = lines_text (ask_words w.flows) w.asks in
+    both start first all (first_text w) (declared_text w ++ (steps ++ asks)) (first_pass w ranges)
+    (both first declared all (declared_text w) (steps ++ asks) (declared_pass w ranges places)
+    (both declared stepped all steps asks (steps_pass w ranges places) (asks_pass w ranges places)))
+
+text_is : (a b c d e : List ℕ) → a ++ (b ++ (c ++ (d ++ e))) ≡ (a ++ (b ++ (c ++ d))) ++ e
+text_is a b c d e = rw (append_assoc a (b ++ (c ++ d)) e, append_assoc b (c ++ d) e, append_assoc c d e) refl
+
+last_fits : (m : ℕ) (s : State) (q : Scenario) → Says m s (line_text done_words) q → length (line_text done_words) ≤ m
+last_fits m s q says = line_fits m s done_words [] q (refl, tt) says
+
+good_parts : (m : ℕ) (w q : Scenario) → AreRanges w → ArePlaces w → Says m start (text_of w) q → (IsDraft (at_state (section_of (some w.steps || some w.asks)) w)) × (length (text_of w) ≤ m)
+unfolding undone_text
+good_parts m w q ranges places says =
+    let is : text_of w ≡ undone_text w ++ line_text done_words = text_is (first_text w) (declared_text w) (lines_text (step_words w.flows w.switches) w.steps) (lines_text (ask_words w.flows) w.asks) (line_text done_words) in
+    let end = undone_pass w ranges places m (line_text done_words) q start_draft (subst (λ (text : List ℕ). Says m start text q) is says) in
+    let fits = last_fits end.left (at_state (section_of (some w.steps || some w.asks)) w) q end.says in
+    (end.draft, omega (arith, ap length is, length-append (undone_text w) (line_text done_words), end.len, fits))
+
+says_whole : (text : List ℕ) (q : Scenario) → reading text ≡ Ok q → Says most_bytes start text q
+unfolding reading
+says_whole text q h = (1, h)
+
+-- Parts whose text is read are good.
+pub only_whole : (w q : Scenario) → AreRanges w → ArePlaces w → reading (text_of w) ≡ Ok q → IsWhole w
+only_whole w q ranges places h =
+    let good = good_parts most_bytes w q ranges places (says_whole (text_of w) q h) in
+    record { fits = good.0.scenario; lines = good.0.lines; short = good.1 }
