@@ -1,7 +1,7 @@
 -- A line that spells a part is read only where the part fits those before it.
-use Rattle.std.proofs.Common.{◌≡◌, ℕ, suc, ◌+◌, ◌<◌, ◌≤◌, ◌^◌, ◌&&◌, ◌||◌, not, Bool, true, false, cond, eqb, ltb, List, [], ◌∷◌, ◌++◌, length, length-append, get_or, map, Some, None, refl, sym, ap, subst, ◌∙◌, arith, All, lit<, append_assoc}
+use Rattle.std.proofs.Common.{◌≡◌, ℕ, suc, ◌+◌, ◌<◌, ◌≤◌, ◌^◌, ◌&&◌, Bool, true, false, cond, eqb, ltb, List, [], ◌∷◌, ◌++◌, length, length-append, map, Some, None, refl, sym, ap, ◌∙◌, arith, All, lit<, append_assoc}
 use Rattle.std.specs.Prelude.{Option, Result, Ok, Err, codes, nat_lt, nat_le, slice_index}
-use Rattle.std.specs.List.{list_any, list_all, position, position_or_len}
+use Rattle.std.specs.List.{list_any, list_all, position_or_len}
 use Rattle.std.specs.Str.{bytes_eq}
 use Rattle.std.specs.Fmt.{decimal}
 use Rattle.std.proofs.lemmas.Bool.{and_parts}
@@ -28,13 +28,13 @@ use Rattle.scenario_lines.specs.Readable.{AreApart, IsFlowLine}
 use Rattle.scenario_lines.specs.Spelling.{Words, joined, host_words, switch_words, host_names, key_parts, path_words, flow_words, byte_of, link_words, burst_words, fate_words, step_words, ask_words}
 use Rattle.scenario_lines.specs.Draft.{State, IsDraft}
 use Rattle.scenario_lines.specs.Fields.{◌>>=◌, number, word, ended, fresh, known, place, fresh_host, fresh_flow, host_place, room, room_to, all_room, room_for_all, hop, path, is_letter, letters_word, delays, burst, fate}
-use Rattle.scenario_lines.specs.Line.{host_line, switch_line, flow_line, linked, unlinked, link_line, packet_line, end_one, end_all, end_line, release_line, ask_line, line_of}
+use Rattle.scenario_lines.specs.Line.{host_line, switch_line, flow_line, linked, unlinked, link_line, packet_line, end_one, end_all, end_line, ask_line, line_of}
 use Rattle.scenario_lines.proofs.ReadableLemmas.{apart_push}
 use Rattle.scenario_lines.proofs.ScenarioLemmas.{host_more, host_linked, switch_more, step_more, ask_more, end_fits, room_at}
 use Rattle.scenario_parts.specs.Parts.{IsFlowRange, IsFateRange, IsStepRange, IsAskRange, IsFlowPlace, IsStepPlace}
 use Rattle.scenario_text.proofs.WordsAgain.{AreWords, words_append, number_word_is, numbers_are_words, number_read}
 use Rattle.scenario_text.proofs.NamesAgain.{name_found, thing_found, list_any-map}
-use Rattle.scenario_text.proofs.LinesAgain.{at_state, section_of, form_read, bare, host_are_words, host_read, switch_are_words, switch_read, key_read, path_read, path_are_words, flow_are_words_of, FlowFits, flow_read, link_are_words, link_read, get_seam, set_seam, place_seam, later, placed, delays_read, burst_if, PacketFits, packet_read, flow_found, not_word, no_number, end_are_words, end_read, end_all_read, release_read, ask_are_words, ask_read}
+use Rattle.scenario_text.proofs.LinesAgain.{at_state, section_of, form_read, bare, host_are_words, host_read, switch_are_words, switch_read, key_read, path_are_words, flow_are_words_of, FlowFits, flow_read, link_are_words, link_read, get_seam, set_seam, place_seam, later, placed, delays_read, burst_if, PacketFits, packet_read, flow_found, not_word, no_number, end_are_words, end_read, end_all_read, release_read, ask_are_words, ask_read}
 use Rattle.scenario_text.proofs.TextAgain.{names_small, things_fresh}
 
 -- The words can make a line, and where that line is read at all, it leads to this state, and its parts fit each other.
@@ -43,6 +43,7 @@ Leads s ws t = AreWords ws × ((u : State) → line_of s (joined ws) ≡ Ok u �
 
 -- ---- what was read of two fields, and of a test
 
+-- What two calls in a row give is what the second gives of what the first gave.
 both_read : {A B : Type 0} (r : Result A Why) (f : A → Result B Why) (u : B) → (r >>= f) ≡ Ok u → (x : A) × (r ≡ Ok x) × (f x ≡ Ok u)
 both_read (Ok x) f u h = (x, refl, h)
 both_read (Err e) f u h = absurd cc
@@ -72,6 +73,7 @@ decimal_same n m small low same =
     let one : Some n ≡ Some m = sym (number_again 18446744073709551615 n (lit< tt) (omega (arith, small))) ∙ ap (number_to 18446744073709551615) same ∙ number_again 18446744073709551615 m (lit< tt) (omega (arith, low)) in
     cc
 
+-- A number that is read is in the range of its field.
 number_range : (low most n : ℕ) (ws : Words) (x : ℕ × Words) → n < 2 ^ 64 → most < 2 ^ 64 → number low most (decimal n ∷ ws) ≡ Ok x → (low ≤ n) × (n ≤ most)
 unfolding number
 number_range low most n ws x small few h = by (number_to most (decimal n)) refl where
@@ -95,25 +97,31 @@ new_name names n x h = let r = unless_read _ _ _ _ h in r.0
 
 pub host_leads : (w : Scenario) (h : HostLine) → IsDraft (at_state Declarations w) → h.name < 65536 → Leads (at_state Declarations w) (host_words h) (at_state Declarations (record w { hosts = w.hosts ++ bare h ∷ [] }))
 unfolding keyword_of host_line ended
-host_leads w h ok small = (host_are_words h small, λ u line.
-    let form = sym (form_read (at_state Declarations w) (codes "host") (decimal h.name ∷ []) words.Host refl refl refl refl (host_are_words h small)) ∙ line in
-    let named = rw (number_read 65535 h.name [] (lit< tt) (omega arith)) at form in
-    let fresh = both_read _ _ u named in
-    let room = both_read _ _ u fresh.2 in
-    let new = new_host w.hosts h.name fresh.0 fresh.1 in
-    let few = room_left 64 (length w.hosts) room.0 room.1 in
-    (host_read w h small new few, host_more (at_state Declarations w) (w.hosts ++ bare h ∷ []) (bare h) ok refl few (record { name = small; few_letters = omega arith }) new))
+host_leads w h ok small = (
+  host_are_words h small,
+  λ u line.
+      let form = sym (form_read (at_state Declarations w) (codes "host") (decimal h.name ∷ []) words.Host refl refl refl refl (host_are_words h small)) ∙ line in
+      let named = rw (number_read 65535 h.name [] (lit< tt) (omega arith)) at form in
+      let fresh = both_read _ _ u named in
+      let room = both_read _ _ u fresh.2 in
+      let new = new_host w.hosts h.name fresh.0 fresh.1 in
+      let few = room_left 64 (length w.hosts) room.0 room.1 in
+      (host_read w h small new few, host_more (at_state Declarations w) (w.hosts ++ bare h ∷ []) (bare h) ok refl few (record { name = small; few_letters = omega arith }) new),
+)
 
 pub switch_leads : (w : Scenario) (n : ℕ) → IsDraft (at_state Declarations w) → n < 65536 → Leads (at_state Declarations w) (switch_words n) (at_state Declarations (record w { switches = w.switches ++ n ∷ [] }))
 unfolding keyword_of switch_line ended
-switch_leads w n ok small = (switch_are_words n small, λ u line.
-    let form = sym (form_read (at_state Declarations w) (codes "switch") (decimal n ∷ []) words.Switch refl refl refl refl (switch_are_words n small)) ∙ line in
-    let named = rw (number_read 65535 n [] (lit< tt) (omega arith)) at form in
-    let fresh = both_read _ _ u named in
-    let room = both_read _ _ u fresh.2 in
-    let new = new_name w.switches n fresh.0 fresh.1 in
-    let few = room_left 64 (length w.switches) room.0 room.1 in
-    (switch_read w n small new few, switch_more (at_state Declarations w) (w.switches ++ n ∷ []) n ok refl refl few small new))
+switch_leads w n ok small = (
+  switch_are_words n small,
+  λ u line.
+      let form = sym (form_read (at_state Declarations w) (codes "switch") (decimal n ∷ []) words.Switch refl refl refl refl (switch_are_words n small)) ∙ line in
+      let named = rw (number_read 65535 n [] (lit< tt) (omega arith)) at form in
+      let fresh = both_read _ _ u named in
+      let room = both_read _ _ u fresh.2 in
+      let new = new_name w.switches n fresh.0 fresh.1 in
+      let few = room_left 64 (length w.switches) room.0 room.1 in
+      (switch_read w n small new few, switch_more (at_state Declarations w) (w.switches ++ n ∷ []) n ok refl refl few small new),
+)
 
 -- ---- flows
 
@@ -127,6 +135,7 @@ hop_good switches sofar at x own lt small h =
     let same : ◌≡◌ {A = Result ℕ Why} (Ok at) (Ok x) = fresh.2 in
     (cc, short.0, new_name sofar at fresh.0 fresh.1)
 
+-- The path that these switches make with those so far has 1 to 16, none twice.
 path_good : (switches sofar ats x : List ℕ) → AreApart switches → All (λ n. n < 65536) switches → All (λ at. at < length switches) ats → AreApart sofar → length sofar ≤ 16 → path switches sofar (path_words switches ats) ≡ Ok x → (AreApart (sofar ++ ats)) × (length sofar + length ats ≤ 16) × (0 < length sofar + length ats)
 unfolding path
 path_good switches sofar [] x own small within once few h =
@@ -206,8 +215,9 @@ flow_leads w hosts f ok names range within = (words_ok, read) where
       let named = rw (number_read 65535 f.name (key_parts f.key at_host) (lit< tt) (omega (arith, range.0))) at line in
       let fresh = both_read (fresh_flow w.flows f.name) _ u named in
       let keyed = rw (key_read f.key at_host range.1, number_read 65535 (slice_index (host_names w.hosts) f.host_at) (codes "path" ∷ path_words w.switches f.path) (lit< tt) (omega (arith, host)), thing_found (λ (g : HostLine). g.name) w.hosts f.host_at ok.lines.own_hosts within.0) at fresh.2 in
-      let hops = both_read (path w.switches [] (path_words w.switches f.path)) _ u keyed in
-      let fits = both_read (room 4096 (length w.flows)) _ u hops.2 in
+      let added : List ℕ → State = λ hops. record (at_state Declarations w) { flows = w.flows ++ record { name = f.name; key = f.key; host_at = f.host_at; path = hops } ∷ [] } in
+      let hops = both_read (path w.switches [] (path_words w.switches f.path)) (λ hops. room 4096 (length w.flows) >>= (λ fits. Ok (added hops))) u keyed in
+      let fits = both_read (room 4096 (length w.flows)) (λ fits. Ok (added hops.0)) u hops.2 in
       let way = path_good w.switches [] f.path hops.0 ok.lines.own_switches ok.lines.switches within.1 (λ i j d less lt. absurd (omega (arith, lt))) (omega arith) hops.1 in
       record {
         names = names;
@@ -241,14 +251,17 @@ few_letters ls x h =
 pub link_leads : (w : Scenario) (done rest : List HostLine) (h : HostLine) → IsDraft (at_state Declarations (record w { hosts = done ++ bare h ∷ rest })) → h.name < 65536 → 0 < length h.letters
     → Leads (at_state Declarations (record w { hosts = done ++ bare h ∷ rest })) (link_words h) (at_state Declarations (record w { hosts = done ++ h ∷ rest }))
 unfolding keyword_of link_line host_place unlinked ended
-link_leads w done rest h ok small some = (link_are_words h small, λ u line.
-    let new : list_any (λ g. eqb g.name h.name) done ≡ false = sym (list_any-map (λ m. eqb m h.name) (λ (g : HostLine). g.name) done) ∙ things_fresh (λ (g : HostLine). g.name) done rest (bare h) ok.lines.own_hosts in
-    let form = sym (form_read (at_state Declarations (record w { hosts = done ++ bare h ∷ rest })) (codes "link") (decimal h.name ∷ map byte_of h.letters ∷ []) words.Link refl refl refl refl (link_are_words h small)) ∙ line in
-    let named = rw (number_read 65535 h.name (map byte_of h.letters ∷ []) (lit< tt) (omega arith), place_seam done rest h new, get_seam done rest (bare h)) at form in
-    let letters = both_read _ _ u named in
-    let few = few_letters h.letters letters.0 letters.1 in
-    let is : done ++ h ∷ rest ≡ linked (done ++ bare h ∷ rest) (length done) h.letters = rw (get_seam done rest (bare h)) (sym (set_seam done rest (bare h) h)) in
-    (link_read w done rest h small some few new, host_linked (at_state Declarations (record w { hosts = done ++ bare h ∷ rest })) (done ++ h ∷ rest) (length done) h.letters ok is few))
+link_leads w done rest h ok small some = (
+  link_are_words h small,
+  λ u line.
+      let new : list_any (λ g. eqb g.name h.name) done ≡ false = sym (list_any-map (λ m. eqb m h.name) (λ (g : HostLine). g.name) done) ∙ things_fresh (λ (g : HostLine). g.name) done rest (bare h) ok.lines.own_hosts in
+      let form = sym (form_read (at_state Declarations (record w { hosts = done ++ bare h ∷ rest })) (codes "link") (decimal h.name ∷ map byte_of h.letters ∷ []) words.Link refl refl refl refl (link_are_words h small)) ∙ line in
+      let named = rw (number_read 65535 h.name (map byte_of h.letters ∷ []) (lit< tt) (omega arith), place_seam done rest h new, get_seam done rest (bare h)) at form in
+      let letters = both_read _ _ u named in
+      let few = few_letters h.letters letters.0 letters.1 in
+      let is : done ++ h ∷ rest ≡ linked (done ++ bare h ∷ rest) (length done) h.letters = rw (get_seam done rest (bare h)) (sym (set_seam done rest (bare h) h)) in
+      (link_read w done rest h small some few new, host_linked (at_state Declarations (record w { hosts = done ++ bare h ∷ rest })) (done ++ h ∷ rest) (length done) h.letters ok is few),
+)
 
 -- ---- steps
 
@@ -291,6 +304,7 @@ stray hops d ws g u small h =
     let bad = rw (no_tail d (codes "burst") small none_number.0, no_tail d (codes "lost") small none_number.1, no_tail d (codes "twice") small none_number.2, no_tail d (codes "late") small none_number.3) at h in
     cc
 
+-- There are as many delays as hops: where one is missing stands a word that is no number.
 as_many : {A : Type 0} (path sofar ds : List ℕ) (hops n : ℕ) (x : Fate) (g : (List ℕ × Words) → (ℕ × Words) → Fate → Result A Why) (u : A) → All (λ d. d < 4294967296) ds
     → (delays path sofar (map decimal ds ++ (burst_words n ++ fate_words x)) >>= (λ d. burst d.1 >>= (λ b. fate hops b.1 >>= g d b))) ≡ Ok u → length ds ≡ length path
 unfolding delays
@@ -346,7 +360,8 @@ packet_good b w at size ds n x u ok lt range line =
     let sent = burst_range n x some.0 (eqb n 1) refl range.2 some.1 in
     let ended = rw (burst_if n x (eqb n 1) refl sent.0 sent.1) at delayed in
     let last = both_read (fate (length (path_at w.flows at)) (fate_words x)) _ u ended in
-    let room = both_read (room_to 1000000 (packet_count w.steps + n)) _ u last.2 in
+    let added : Fate → State = λ y. record (at_state (section_of b) w) { section = Steps; steps = w.steps ++ steps.Packet at size ds n y ∷ [] } in
+    let room = both_read (room_to 1000000 (packet_count w.steps + n)) (λ fits. Ok (added last.0)) u last.2 in
     record {
       flow = lt;
       own_flows = ok.lines.own_flows;
@@ -361,18 +376,24 @@ packet_good b w at size ds n x u ok lt range line =
     }
 
 packet_leads : (b : Bool) (w : Scenario) (at size : ℕ) (ds : List ℕ) (n : ℕ) (x : Fate) → IsDraft (at_state (section_of b) w) → at < length w.flows → IsStepRange (steps.Packet at size ds n x) → Leads (at_state (section_of b) w) (step_words w.flows w.switches (steps.Packet at size ds n x)) (at_state Steps (record w { steps = w.steps ++ steps.Packet at size ds n x ∷ [] }))
-packet_leads b w at size ds n x ok lt range = (packet_words_are (slice_index (names_of w.flows) at) size ds n x (flow_name_small w at ok.lines.flows lt) range.0 range.1 range.2 range.3, λ u line.
-    let good = packet_good b w at size ds n x u ok lt range line in
-    (packet_read b w at size ds n x good, step_more (at_state (section_of b) w) (w.steps ++ steps.Packet at size ds n x ∷ []) (steps.Packet at size ds n x) ok (lt, good.hops, good.fate) refl good.packets (λ i l. omega (arith, ok.scenario.few_ends i l)) (range.0, range.1, good.some)))
+packet_leads b w at size ds n x ok lt range = (
+  packet_words_are (slice_index (names_of w.flows) at) size ds n x (flow_name_small w at ok.lines.flows lt) range.0 range.1 range.2 range.3,
+  λ u line.
+      let good = packet_good b w at size ds n x u ok lt range line in
+      (packet_read b w at size ds n x good, step_more (at_state (section_of b) w) (w.steps ++ steps.Packet at size ds n x ∷ []) (steps.Packet at size ds n x) ok (lt, good.hops, good.fate) refl good.packets (λ i l. omega (arith, ok.scenario.few_ends i l)) (range.0, range.1, good.some)),
+)
 
 end_leads : (b : Bool) (w : Scenario) (at : ℕ) → IsDraft (at_state (section_of b) w) → at < length w.switches → Leads (at_state (section_of b) w) (step_words w.flows w.switches (steps.End at)) (at_state Steps (record w { steps = w.steps ++ steps.End at ∷ [] }))
 unfolding keyword_of end_line end_one place ended
-end_leads b w at ok lt = let small : slice_index w.switches at < 65536 = ok.lines.switches at 0 lt in (end_are_words (slice_index w.switches at) small, λ u line.
-    let form = sym (form_read (at_state (section_of b) w) (codes "end") (decimal (slice_index w.switches at) ∷ []) words.End refl (later b) refl (placed b words.End refl refl) (end_are_words (slice_index w.switches at) small)) ∙ line in
-    let found = rw (not_word (slice_index w.switches at) (codes "all") (bytes_eq (decimal (slice_index w.switches at)) (codes "all")) refl small no_number, number_read 65535 (slice_index w.switches at) [] (lit< tt) (omega (arith, small)), name_found w.switches at ok.lines.own_switches lt) at form in
-    let room = both_read (room 65535 (ends_of at w.steps)) _ u found in
-    let few = room_left 65535 (ends_of at w.steps) room.0 room.1 in
-    (end_read b w at lt ok.lines.own_switches small few, step_more (at_state (section_of b) w) (w.steps ++ steps.End at ∷ []) (steps.End at) ok lt refl (omega (arith, ok.scenario.few_packets)) (λ i l. end_fits (at_state (section_of b) w) at i ok few l) tt))
+end_leads b w at ok lt = let small : slice_index w.switches at < 65536 = ok.lines.switches at 0 lt in (
+  end_are_words (slice_index w.switches at) small,
+  λ u line.
+      let form = sym (form_read (at_state (section_of b) w) (codes "end") (decimal (slice_index w.switches at) ∷ []) words.End refl (later b) refl (placed b words.End refl refl) (end_are_words (slice_index w.switches at) small)) ∙ line in
+      let found = rw (not_word (slice_index w.switches at) (codes "all") (bytes_eq (decimal (slice_index w.switches at)) (codes "all")) refl small no_number, number_read 65535 (slice_index w.switches at) [] (lit< tt) (omega (arith, small)), name_found w.switches at ok.lines.own_switches lt) at form in
+      let room = both_read (room 65535 (ends_of at w.steps)) _ u found in
+      let few = room_left 65535 (ends_of at w.steps) room.0 room.1 in
+      (end_read b w at lt ok.lines.own_switches small few, step_more (at_state (section_of b) w) (w.steps ++ steps.End at ∷ []) (steps.End at) ok lt refl (omega (arith, ok.scenario.few_packets)) (λ i l. end_fits (at_state (section_of b) w) at i ok few l) tt),
+)
 
 all_have_room : (ts : List Step) (n : ℕ) (x : Unit {0}) → room_for_all ts n ≡ Ok x → all_room ts n ≡ true
 unfolding room_for_all
@@ -380,11 +401,14 @@ all_have_room ts n x h = if_read _ _ _ _ h
 
 end_all_leads : (b : Bool) (w : Scenario) → IsDraft (at_state (section_of b) w) → Leads (at_state (section_of b) w) (step_words w.flows w.switches steps.EndAll) (at_state Steps (record w { steps = w.steps ++ steps.EndAll ∷ [] }))
 unfolding keyword_of end_line end_all ended
-end_all_leads b w ok = ((refl, (refl, tt)), λ u line.
-    let form = sym (form_read (at_state (section_of b) w) (codes "end") (codes "all" ∷ []) words.End refl (later b) refl (placed b words.End refl refl) (refl, (refl, tt))) ∙ line in
-    let room = both_read (room_for_all w.steps (length w.switches)) _ u form in
-    let few : (i : ℕ) → i < length w.switches → ends_of i w.steps < 65535 = λ i l. room_at w.steps (length w.switches) i (all_have_room w.steps (length w.switches) room.0 room.1) l in
-    (end_all_read b w few, step_more (at_state (section_of b) w) (w.steps ++ steps.EndAll ∷ []) steps.EndAll ok tt refl (omega (arith, ok.scenario.few_packets)) (λ i l. omega (arith, few i l)) tt))
+end_all_leads b w ok = (
+  (refl, (refl, tt)),
+  λ u line.
+      let form = sym (form_read (at_state (section_of b) w) (codes "end") (codes "all" ∷ []) words.End refl (later b) refl (placed b words.End refl refl) (refl, (refl, tt))) ∙ line in
+      let room = both_read (room_for_all w.steps (length w.switches)) _ u form in
+      let few : (i : ℕ) → i < length w.switches → ends_of i w.steps < 65535 = λ i l. room_at w.steps (length w.switches) i (all_have_room w.steps (length w.switches) room.0 room.1) l in
+      (end_all_read b w few, step_more (at_state (section_of b) w) (w.steps ++ steps.EndAll ∷ []) steps.EndAll ok tt refl (omega (arith, ok.scenario.few_packets)) (λ i l. omega (arith, few i l)) tt),
+)
 
 release_leads : (b : Bool) (w : Scenario) → IsDraft (at_state (section_of b) w) → Leads (at_state (section_of b) w) (step_words w.flows w.switches steps.Release) (at_state Steps (record w { steps = w.steps ++ steps.Release ∷ [] }))
 release_leads b w ok = ((refl, tt), λ u line. (release_read b w, step_more (at_state (section_of b) w) (w.steps ++ steps.Release ∷ []) steps.Release ok tt refl (omega (arith, ok.scenario.few_packets)) (λ i l. omega (arith, ok.scenario.few_ends i l)) tt))
@@ -403,12 +427,15 @@ declared names n x h = if_read _ _ _ _ h
 
 pub ask_leads : (b : Bool) (w : Scenario) (q : Ask) → IsDraft (at_state (section_of b) w) → IsAskRange q → q.flow_at < length w.flows → Leads (at_state (section_of b) w) (ask_words w.flows q) (at_state Steps (record w { asks = w.asks ++ q ∷ [] }))
 unfolding keyword_of ask_line place ended
-ask_leads b w q ok range lt = let name = flow_name_small w q.flow_at ok.lines.flows lt in (ask_are_words w q name range.0 range.1, λ u line.
-    let form = sym (form_read (at_state (section_of b) w) (codes "ask") (decimal (slice_index (names_of w.flows) q.flow_at) ∷ decimal q.switch ∷ decimal q.epoch ∷ []) words.Ask refl (later b) refl (placed b words.Ask refl refl) (ask_are_words w q name range.0 range.1)) ∙ line in
-    let found = rw (number_read 65535 (slice_index (names_of w.flows) q.flow_at) (decimal q.switch ∷ decimal q.epoch ∷ []) (lit< tt) (omega (arith, name)), flow_found w q.flow_at ok.lines.own_flows lt, number_read 65535 q.switch (decimal q.epoch ∷ []) (lit< tt) (omega (arith, range.0))) at form in
-    let here = both_read (known w.switches q.switch) _ u found in
-    let timed = rw (number_read 4294967295 q.epoch [] (lit< tt) (omega (arith, range.1))) at here.2 in
-    let room = both_read (room 10000 (length w.asks)) _ u timed in
-    let is = declared w.switches q.switch here.0 here.1 in
-    let few = room_left 10000 (length w.asks) room.0 room.1 in
-    (ask_read b w q lt ok.lines.own_flows name is range.0 range.1 few, ask_more (at_state (section_of b) w) (w.asks ++ q ∷ []) q ok lt refl (record { declared = is; switch = range.0; epoch = range.1 }) few))
+ask_leads b w q ok range lt = let name = flow_name_small w q.flow_at ok.lines.flows lt in (
+  ask_are_words w q name range.0 range.1,
+  λ u line.
+      let form = sym (form_read (at_state (section_of b) w) (codes "ask") (decimal (slice_index (names_of w.flows) q.flow_at) ∷ decimal q.switch ∷ decimal q.epoch ∷ []) words.Ask refl (later b) refl (placed b words.Ask refl refl) (ask_are_words w q name range.0 range.1)) ∙ line in
+      let found = rw (number_read 65535 (slice_index (names_of w.flows) q.flow_at) (decimal q.switch ∷ decimal q.epoch ∷ []) (lit< tt) (omega (arith, name)), flow_found w q.flow_at ok.lines.own_flows lt, number_read 65535 q.switch (decimal q.epoch ∷ []) (lit< tt) (omega (arith, range.0))) at form in
+      let here = both_read (known w.switches q.switch) _ u found in
+      let timed = rw (number_read 4294967295 q.epoch [] (lit< tt) (omega (arith, range.1))) at here.2 in
+      let room = both_read (room 10000 (length w.asks)) _ u timed in
+      let is = declared w.switches q.switch here.0 here.1 in
+      let few = room_left 10000 (length w.asks) room.0 room.1 in
+      (ask_read b w q lt ok.lines.own_flows name is range.0 range.1 few, ask_more (at_state (section_of b) w) (w.asks ++ q ∷ []) q ok lt refl (record { declared = is; switch = range.0; epoch = range.1 }) few),
+)

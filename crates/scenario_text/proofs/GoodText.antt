@@ -16,7 +16,7 @@ use Rattle.lg_model.specs.Placing.{IsShape}
 use Rattle.lg_model.specs.Scenario.{Scenario}
 use Rattle.scenario_lines.specs.declared.why.Why.{Why}
 use Rattle.scenario_lines.specs.declared.section.Section.{Section}
-use Rattle.scenario_lines.specs.declared.section.Section.TheVariants.{First, Second, Third, Declarations, Steps, Done}
+use Rattle.scenario_lines.specs.declared.section.Section.TheVariants.{First, Second, Third, Declarations, Steps}
 use Rattle.scenario_lines.specs.Sections.{is_done}
 use Rattle.scenario_lines.specs.Readable.{IsHash, IsPick}
 use Rattle.scenario_lines.specs.Spelling.{Words, joined, line_text, guardian_words, shape_words, pick_line_words, host_words, switch_words, flow_words, link_words, step_words, ask_words, done_words}
@@ -24,12 +24,12 @@ use Rattle.scenario_lines.specs.Draft.{State, start, scenario_of, IsDraft}
 use Rattle.scenario_lines.specs.Line.{line_of}
 use Rattle.scenario_text.specs.Text.{Fault, after_line, lines_say, reading, most_bytes}
 use Rattle.scenario_parts.specs.Parts.{AreRanges, ArePlaces, IsFlowRange, IsStepRange, IsAskRange, IsFlowPlace, IsStepPlace}
-use Rattle.scenario_parts.specs.Printed.{lines_text, link_text, first_text, declared_text, happening_text, text_of}
+use Rattle.scenario_parts.specs.Printed.{lines_text, link_text, first_text, declared_text, text_of}
 use Rattle.scenario_parts.specs.Whole.{IsWhole}
 use Rattle.scenario_text.proofs.WordsAgain.{AreWords, joined_plain, plain_unbroken, plain_bare}
 use Rattle.scenario_text.proofs.NamesAgain.{at_seam}
-use Rattle.scenario_text.proofs.LinesAgain.{at_state, section_of, guardian_read, shape_are_words, shape_read, pick_are_words, pick_read, bare, host_are_words, switch_are_words, path_are_words, link_are_words, flow_are_words_of, ask_are_words, done_read}
-use Rattle.scenario_text.proofs.TextAgain.{so_far, some, some_push, or_some, line_first, bare_names, names_small, no_letters}
+use Rattle.scenario_text.proofs.LinesAgain.{at_state, section_of, guardian_read, shape_are_words, shape_read, pick_are_words, pick_read, bare}
+use Rattle.scenario_text.proofs.TextAgain.{so_far, some, some_push, or_some, line_first, bare_names, no_letters}
 use Rattle.scenario_text.proofs.GoodLines.{Leads, host_leads, switch_leads, flow_leads, link_leads, step_leads, ask_leads}
 
 -- From some line and this state on, the text says the scenario, of which only the first m bytes are looked at.
@@ -70,8 +70,7 @@ line_within : (k : ℕ) (s : State) (ws : Words) (more : List ℕ) (q : Scenario
 line_within k s ws more q ok says =
     let split = ap (words_at 10) (take-append-add (line_text ws) more k) ∙ line_first ws (take k more) ok in
     let long = ap (nat_le (length (line_text ws) + k)) (length-append (line_text ws) more) ∙ same_le (length (line_text ws)) k (length more) in
-    let here : lines_say (nat_le k (length more)) says.0 s (joined ws ∷ words_at 10 (take k more)) ≡ Ok q =
-        sym (ap (λ (b : Bool). lines_say b says.0 s (words_at 10 (take (length (line_text ws) + k) (line_text ws ++ more)))) long ∙ ap (lines_say (nat_le k (length more)) says.0 s) split) ∙ says.1 in
+    let here : lines_say (nat_le k (length more)) says.0 s (joined ws ∷ words_at 10 (take k more)) ≡ Ok q = sym (ap (λ (b : Bool). lines_say b says.0 s (words_at 10 (take (length (line_text ws) + k) (line_text ws ++ more)))) long ∙ ap (lines_say (nat_le k (length more)) says.0 s) split) ∙ says.1 in
     let said = line_said (nat_le k (length more)) says.0 s ws (words_at 10 (take k more)) q ok (omega (arith, length-slice_split (λ b. eqb b 10) (take k more))) here in
     (said.0, said.1, λ still. (says.0 + 1, said.2 still))
 
@@ -95,6 +94,7 @@ line_fits m s ws more q ok says = by (cases_lt m (length (line_text ws))) where
 same_ok : (t u : State) → ◌≡◌ {A = Result State Why} (Ok t) (Ok u) → t ≡ u
 same_ok t u e = cc
 
+-- A line that leads to a state, where it is read at all, passes.
 line_passes : (s t : State) (ws : Words) → is_done t.section ≡ false → (IsDraft s → Leads s ws t) → Passes s (line_text ws) t
 line_passes s t ws still leads = λ m more q ok says.
     let two = leads ok in
@@ -107,6 +107,7 @@ line_passes s t ws still leads = λ m more q ok says.
 
 -- ---- pieces in a row
 
+-- An empty piece.
 no_piece : (s : State) → Passes s [] s
 no_piece s = λ m more q ok says. record { left = m; len = omega arith; says = says; draft = ok }
 
@@ -116,6 +117,7 @@ both s t u a b one two = λ m more q ok says.
     let second = two first.left more q first.draft first.says in
     record { left = second.left; len = omega (arith, length-append a b, first.len, second.len); says = second.says; draft = second.draft }
 
+-- The pieces of a list, where that of each element leads from the state behind those before it to the next.
 each_passes : {X : Type 0} (S : List X → List X → State) (piece : X → List ℕ) (all : List X)
     → ((done rest : List X) (x : X) → all ≡ done ++ x ∷ rest → Passes (S done (x ∷ rest)) (piece x) (S (done ++ x ∷ []) rest))
     → (done rest : List X) → all ≡ done ++ rest → Passes (S done rest) (flat_map piece rest) (S all [])
@@ -261,18 +263,16 @@ undone_pass w ranges places =
     (both first declared all (declared_text w) (steps ++ asks) (declared_pass w ranges places)
     (both declared stepped all steps asks (steps_pass w ranges places) (asks_pass w ranges places)))
 
-text_is : (a b c d e : List ℕ) → a ++ (b ++ (c ++ (d ++ e))) ≡ (a ++ (b ++ (c ++ d))) ++ e
-text_is a b c d e = rw (append_assoc a (b ++ (c ++ d)) e, append_assoc b (c ++ d) e, append_assoc c d e) refl
+last_apart : (a b c d e : List ℕ) → a ++ (b ++ (c ++ (d ++ e))) ≡ (a ++ (b ++ (c ++ d))) ++ e
+last_apart a b c d e = rw (append_assoc a (b ++ (c ++ d)) e, append_assoc b (c ++ d) e, append_assoc c d e) refl
 
-last_fits : (m : ℕ) (s : State) (q : Scenario) → Says m s (line_text done_words) q → length (line_text done_words) ≤ m
-last_fits m s q says = line_fits m s done_words [] q (refl, tt) says
-
+-- Parts whose text says a scenario within its first m bytes fit each other, and their text has at most m bytes.
 good_parts : (m : ℕ) (w q : Scenario) → AreRanges w → ArePlaces w → Says m start (text_of w) q → (IsDraft (at_state (section_of (some w.steps || some w.asks)) w)) × (length (text_of w) ≤ m)
 unfolding undone_text
 good_parts m w q ranges places says =
-    let is : text_of w ≡ undone_text w ++ line_text done_words = text_is (first_text w) (declared_text w) (lines_text (step_words w.flows w.switches) w.steps) (lines_text (ask_words w.flows) w.asks) (line_text done_words) in
+    let is : text_of w ≡ undone_text w ++ line_text done_words = last_apart (first_text w) (declared_text w) (lines_text (step_words w.flows w.switches) w.steps) (lines_text (ask_words w.flows) w.asks) (line_text done_words) in
     let end = undone_pass w ranges places m (line_text done_words) q start_draft (subst (λ (text : List ℕ). Says m start text q) is says) in
-    let fits = last_fits end.left (at_state (section_of (some w.steps || some w.asks)) w) q end.says in
+    let fits = line_fits end.left (at_state (section_of (some w.steps || some w.asks)) w) done_words [] q (refl, tt) end.says in
     (end.draft, omega (arith, ap length is, length-append (undone_text w) (line_text done_words), end.len, fits))
 
 says_whole : (text : List ℕ) (q : Scenario) → reading text ≡ Ok q → Says most_bytes start text q
