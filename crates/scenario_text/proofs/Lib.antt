@@ -9,3 +9,5 @@ pub mod WordsAgain
 pub mod NamesAgain
 pub mod LinesAgain
 pub mod TextAgain
+pub mod GoodLines
+pub mod GoodText

@@ -53,7 +53,7 @@ section_of true = Steps
 section_of false = Declarations
 
 -- A line that isn't the first goes by its form.
-form_read : (s : State) (w : List ℕ) (ws : Words) (k : Keyword) → is_skipped (joined (w ∷ ws)) ≡ false → is_first s.section ≡ false → keyword_of w ≡ Some k → has_place s.section k ≡ true → AreWords (w ∷ ws) → line_of s (joined (w ∷ ws)) ≡ form_of k s ws
+pub form_read : (s : State) (w : List ℕ) (ws : Words) (k : Keyword) → is_skipped (joined (w ∷ ws)) ≡ false → is_first s.section ≡ false → keyword_of w ≡ Some k → has_place s.section k ≡ true → AreWords (w ∷ ws) → line_of s (joined (w ∷ ws)) ≡ form_of k s ws
 unfolding line_of
 form_read s w ws k plain later is placed ok = rw (plain, later) (ap (words_line s) (split_words w ws ok) ∙ rw (is, placed) refl)
 
@@ -120,7 +120,7 @@ switch_read w n small new few =
 
 -- ---- flows
 
-key_read : (k : FlowKey) (ws : Words) → Fits k → key (key_parts k ws) ≡ Ok (k, ws)
+pub key_read : (k : FlowKey) (ws : Words) → Fits k → key (key_parts k ws) ≡ Ok (k, ws)
 unfolding key key_address key_number
 key_read k ws h = rw (address_again k.src h.src, address_again k.dst h.dst, number_again 255 k.proto (lit< tt) (omega (arith, h.proto)), number_again 65535 k.sport (lit< tt) (omega (arith, h.sport)), number_again 65535 k.dport (lit< tt) (omega (arith, h.dport))) refl
 
@@ -137,7 +137,7 @@ path_read switches sofar (at ∷ ats) own small within once few some =
     rw (e, number_read 65535 (slice_index switches at) [] (lit< tt) le, name_found switches at own lt, name_fresh sofar ats at once)
     (path_read switches (sofar ++ at ∷ []) ats own small (λ i d l. within (suc i) d (omega arith)) again (omega (arith, length-append sofar (at ∷ []))) (omega (arith, length-append sofar (at ∷ []))) ∙ ap (λ (xs : List ℕ). Ok xs) (append_assoc sofar (at ∷ []) ats))
 
-path_are_words : (switches ats : List ℕ) → All (λ n. n < 65536) switches → All (λ at. at < length switches) ats → AreWords (path_words switches ats)
+pub path_are_words : (switches ats : List ℕ) → All (λ n. n < 65536) switches → All (λ at. at < length switches) ats → AreWords (path_words switches ats)
 path_are_words switches [] small within = tt
 path_are_words switches (at ∷ ats) small within = (number_word_is (slice_index switches at) (let l = small at 0 (within 0 0 (omega arith)) in omega (arith, l)), path_are_words switches ats small (λ i d l. within (suc i) d (omega arith)))
 
@@ -153,7 +153,7 @@ pub record FlowFits (w : Scenario) (hosts : List HostLine) (f : Flow) : Type 0 w
   pub new_flow : list_any (λ m. eqb m f.name) (names_of w.flows) ≡ false
   pub room_left : length w.flows < 4096
 
-flow_are_words_of : (switches : List ℕ) (f : Flow) (host : ℕ) → host < 65536 → f.name < 65536 → Fits f.key → AreWords (path_words switches f.path) → AreWords (codes "flow" ∷ decimal f.name ∷ key_parts f.key (codes "host" ∷ decimal host ∷ codes "path" ∷ path_words switches f.path))
+pub flow_are_words_of : (switches : List ℕ) (f : Flow) (host : ℕ) → host < 65536 → f.name < 65536 → Fits f.key → AreWords (path_words switches f.path) → AreWords (codes "flow" ∷ decimal f.name ∷ key_parts f.key (codes "host" ∷ decimal host ∷ codes "path" ∷ path_words switches f.path))
 flow_are_words_of switches f host small name fits hops =
     (refl, (number_word_is f.name (omega arith), key_words_are f.key (codes "host" ∷ decimal host ∷ codes "path" ∷ path_words switches f.path) fits (refl, (number_word_is host (omega arith), (refl, hops)))))
 
@@ -199,18 +199,18 @@ letters_word_is (letters.LoseReply ∷ ls) = letters_word_is ls
 letters_word_is (letters.Twice ∷ ls) = letters_word_is ls
 letters_word_is (letters.Hold ∷ ls) = letters_word_is ls
 
-get_seam : {X : Type 0} (done rest : List X) (x : X) → slice_get (done ++ x ∷ rest) (length done) ≡ Some x
+pub get_seam : {X : Type 0} (done rest : List X) (x : X) → slice_get (done ++ x ∷ rest) (length done) ≡ Some x
 get_seam [] rest x = refl
 get_seam (y ∷ done) rest x = get_seam done rest x
 
-set_seam : {X : Type 0} (done rest : List X) (x y : X) → set (done ++ x ∷ rest) (length done) y ≡ done ++ y ∷ rest
+pub set_seam : {X : Type 0} (done rest : List X) (x y : X) → set (done ++ x ∷ rest) (length done) y ≡ done ++ y ∷ rest
 set_seam [] rest x y = refl
 set_seam (z ∷ done) rest x y = ap (λ (xs : List _). z ∷ xs) (set_seam done rest x y)
 
 same : (n : ℕ) → eqb n n ≡ true
 same n = grind arith
 
-place_seam : (done rest : List HostLine) (h : HostLine) → list_any (λ g. eqb g.name h.name) done ≡ false → position (λ g. eqb g.name h.name) (done ++ bare h ∷ rest) ≡ Some (length done)
+pub place_seam : (done rest : List HostLine) (h : HostLine) → list_any (λ g. eqb g.name h.name) done ≡ false → position (λ g. eqb g.name h.name) (done ++ bare h ∷ rest) ≡ Some (length done)
 place_seam done rest h new =
     position_is (λ g. eqb g.name h.name) (done ++ bare h ∷ rest) (length done) (bare h) (omega (arith, length-append done (bare h ∷ rest)))
     (rw (get_or-append_seam done (bare h) rest (bare h)) (same h.name))
@@ -233,15 +233,15 @@ link_read w done rest h small some few new =
 
 -- ---- steps
 
-later : (b : Bool) → is_first (section_of b) ≡ false
+pub later : (b : Bool) → is_first (section_of b) ≡ false
 later true = refl
 later false = refl
 
-placed : (b : Bool) (k : Keyword) → has_place Steps k ≡ true → has_place Declarations k ≡ true → has_place (section_of b) k ≡ true
+pub placed : (b : Bool) (k : Keyword) → has_place Steps k ≡ true → has_place Declarations k ≡ true → has_place (section_of b) k ≡ true
 placed true k one two = one
 placed false k one two = two
 
-delays_read : (path sofar ds : List ℕ) (rest : Words) → All (λ d. d < 4294967296) ds → length ds ≡ length path → delays path sofar (map decimal ds ++ rest) ≡ Ok (sofar ++ ds, rest)
+pub delays_read : (path sofar ds : List ℕ) (rest : Words) → All (λ d. d < 4294967296) ds → length ds ≡ length path → delays path sofar (map decimal ds ++ rest) ≡ Ok (sofar ++ ds, rest)
 unfolding delays
 delays_read [] sofar [] rest small len = rw append-nil refl
 delays_read [] sofar (d ∷ ds) rest small len = absurd (omega arith)
@@ -257,7 +257,7 @@ not_burst (fates.Lost k) = refl
 not_burst fates.Twice = refl
 not_burst fates.Late = refl
 
-burst_if : (n : ℕ) (x : Fate) (b : Bool) → eqb n 1 ≡ b → 1 ≤ n → n ≤ 1000000 → burst (burst_words n ++ fate_words x) ≡ Ok (n, fate_words x)
+pub burst_if : (n : ℕ) (x : Fate) (b : Bool) → eqb n 1 ≡ b → 1 ≤ n → n ≤ 1000000 → burst (burst_words n ++ fate_words x) ≡ Ok (n, fate_words x)
 unfolding burst
 burst_if n x true e ge le = let is : n ≡ 1 = grind arith in rw is (not_burst x)
 burst_if n x false e ge le = rw e (number_from_read 1 1000000 n (fate_words x) (lit< tt) ge le)
@@ -296,7 +296,7 @@ packet_are_words w at size ds b x h =
     let tail = words_append (burst_words b) (fate_words x) (burst_are_words b (eqb b 1) refl (omega (arith, h.packets))) (fate_are_words (length (path_at w.flows at)) x (omega (arith, h.short)) h.fate) in
     (refl, (number_word_is (slice_index (names_of w.flows) at) (omega (arith, h.name)), (number_word_is size (omega (arith, h.small)), words_append (map decimal ds) (burst_words b ++ fate_words x) (numbers_are_words ds h.delays) tail)))
 
-flow_found : (w : Scenario) (at : ℕ) → AreApart (names_of w.flows) → at < length w.flows → position (λ m. eqb m (slice_index (names_of w.flows) at)) (names_of w.flows) ≡ Some at
+pub flow_found : (w : Scenario) (at : ℕ) → AreApart (names_of w.flows) → at < length w.flows → position (λ m. eqb m (slice_index (names_of w.flows) at)) (names_of w.flows) ≡ Some at
 flow_found w at own lt = name_found (names_of w.flows) at own (omega (arith, length-map w.flows (λ (f : Flow). f.name)))
 
 pub packet_read : (b : Bool) (w : Scenario) (at size : ℕ) (ds : List ℕ) (n : ℕ) (x : Fate) → PacketFits w at size ds n x → line_of (at_state (section_of b) w) (joined (step_words w.flows w.switches (steps.Packet at size ds n x))) ≡ Ok (at_state Steps (record w { steps = w.steps ++ steps.Packet at size ds n x ∷ [] }))
@@ -309,13 +309,13 @@ differ : (d : ℕ) → Some d ≡ None → ⊥
 differ d e = cc
 
 -- A number is none of the fixed words.
-not_word : (d : ℕ) (w : List ℕ) (b : Bool) → bytes_eq (decimal d) w ≡ b → d < 65536 → number_to 65535 w ≡ None → b ≡ false
+pub not_word : (d : ℕ) (w : List ℕ) (b : Bool) → bytes_eq (decimal d) w ≡ b → d < 65536 → number_to 65535 w ≡ None → b ≡ false
 not_word d w false is small none = refl
 not_word d w true is small none =
     let one : decimal d ≡ w = (bytes_eq-Decides (decimal d) w).0 is in
     absurd (differ d (sym (number_again 65535 d (lit< tt) (omega arith)) ∙ ap (number_to 65535) one ∙ none))
 
-no_number : number_to 65535 (codes "all") ≡ None
+pub no_number : number_to 65535 (codes "all") ≡ None
 unfolding number_to is_number
 no_number = refl
 

@@ -35,7 +35,7 @@ some_parts : (xs : List (List ℕ)) → 0 < length xs → (p : List ℕ) × (ps 
 some_parts [] lt = absurd (omega arith)
 some_parts (p ∷ ps) lt = (p, ps, refl)
 
-line_first : (ws : Words) (more : List ℕ) → AreWords ws → words_at 10 (line_text ws ++ more) ≡ joined ws ∷ words_at 10 more
+pub line_first : (ws : Words) (more : List ℕ) → AreWords ws → words_at 10 (line_text ws ++ more) ≡ joined ws ∷ words_at 10 more
 line_first ws more ok = rw (append_assoc (joined ws) (10 ∷ []) more) (slice_split_at (λ b. eqb b 10) (joined ws) 10 more (plain_unbroken (joined ws) (joined_plain ws ok)) refl)
 
 pub before : (s t : State) (ws : Words) (more : List ℕ) (w : Scenario) → AreWords ws → line_of s (joined ws) ≡ Ok t → is_done t.section ≡ false → Reads t more w → Reads s (line_text ws ++ more) w
@@ -62,17 +62,17 @@ for_each S piece all w one done (x ∷ rest) more is then =
     let next = for_each S piece all w one (done ++ x ∷ []) rest more (is ∙ sym (append_assoc done (x ∷ []) rest)) then in
     rw (append_assoc (piece x) (flat_map piece rest) more) (one done rest x (flat_map piece rest ++ more) is next)
 
-things_fresh : {X : Type 0} (name : X → ℕ) (done rest : List X) (x : X) → AreApart (map name (done ++ x ∷ rest)) → list_any (λ m. eqb m (name x)) (map name done) ≡ false
+pub things_fresh : {X : Type 0} (name : X → ℕ) (done rest : List X) (x : X) → AreApart (map name (done ++ x ∷ rest)) → list_any (λ m. eqb m (name x)) (map name done) ≡ false
 things_fresh name done rest x apart = name_fresh (map name done) (map name rest) (name x) (rw (map-append name done (x ∷ rest)) at apart)
 
-names_small : {X : Type 0} (name : X → ℕ) (xs : List X) → All (λ x. name x < 65536) xs → All (λ n. n < 65536) (map name xs)
+pub names_small : {X : Type 0} (name : X → ℕ) (xs : List X) → All (λ x. name x < 65536) xs → All (λ n. n < 65536) (map name xs)
 names_small name [] ok = λ i d lt. absurd (omega arith)
 names_small name (y ∷ ys) ok = λ i d lt.
     let within : i < length (y ∷ ys) = omega (arith, lt, length-map (y ∷ ys) name) in
     rw (get_or-map name (y ∷ ys) i y d within) (ok i y within)
 
 -- The scenario of some of the parts.
-abbrev so_far : Scenario → List HostLine → List ℕ → List Flow → List Step → List Ask → Scenario
+abbrev pub so_far : Scenario → List HostLine → List ℕ → List Flow → List Step → List Ask → Scenario
 so_far w hosts switches flows ts asks = record { shape = w.shape; pick = w.pick; hosts = hosts; switches = switches; flows = flows; steps = ts; asks = asks }
 
 -- ---- declarations
@@ -98,7 +98,7 @@ switch_one w h hosts done rest n more is then =
     let few : length done < 64 = omega (arith, ap length is, length-append done (n ∷ rest), h.fits.few_switches) in
     before (at_state Declarations (so_far w hosts done [] [] [])) (at_state Declarations (so_far w hosts (done ++ n ∷ []) [] [] [])) (switch_words n) more w (switch_are_words n small) (switch_read (so_far w hosts done [] [] []) n small new few) refl then
 
-bare_names : (hosts : List HostLine) → host_names (map bare hosts) ≡ host_names hosts
+pub bare_names : (hosts : List HostLine) → host_names (map bare hosts) ≡ host_names hosts
 bare_names [] = refl
 bare_names (h ∷ hosts) = ap (λ (ns : List ℕ). h.name ∷ ns) (bare_names hosts)
 
@@ -120,7 +120,7 @@ flow_one w h done rest f more is then =
     } in
     before (at_state Declarations (so_far w (map bare w.hosts) w.switches done [] [])) (at_state Declarations (so_far w (map bare w.hosts) w.switches (done ++ f ∷ []) [] [])) (flow_words w.hosts w.switches f) more w (flow_are_words (so_far w (map bare w.hosts) w.switches done [] []) w.hosts f good) (flow_read (so_far w (map bare w.hosts) w.switches done [] []) w.hosts f good) refl then
 
-no_letters : {X : Type 0} (ls : List X) → length ls ≡ 0 → [] ≡ ls
+pub no_letters : {X : Type 0} (ls : List X) → length ls ≡ 0 → [] ≡ ls
 no_letters [] e = refl
 no_letters (l ∷ ls) e = absurd (omega arith)
 
@@ -148,15 +148,15 @@ link_one w h done rest x more is then = by_letters (eqb (length x.letters) 0) re
 
 -- ---- steps and asks
 
-abbrev some : {X : Type 0} → List X → Bool
+abbrev pub some : {X : Type 0} → List X → Bool
 some [] = false
 some (x ∷ xs) = true
 
-some_push : {X : Type 0} (xs : List X) (x : X) → some (xs ++ x ∷ []) ≡ true
+pub some_push : {X : Type 0} (xs : List X) (x : X) → some (xs ++ x ∷ []) ≡ true
 some_push [] x = refl
 some_push (y ∷ ys) x = refl
 
-or_some : (b : Bool) → (b || true) ≡ true
+pub or_some : (b : Bool) → (b || true) ≡ true
 or_some true = refl
 or_some false = refl
 
