@@ -1,3 +1,4 @@
 pub mod EachLemmas
 pub mod ApartLemmas
 pub mod CountLemmas
+pub mod LengthLemmas

@@ -1,3 +1,5 @@
 pub mod Printed
 pub mod Whole
 pub mod Parts
+pub mod Lists
+pub mod Lengths

@@ -30,10 +30,10 @@ pub(crate) fn are_few_packets(steps: &[Step]) -> bool
 }
 
 // Whether the steps end at most 65,535 epochs of each of the first switches.
-pub(crate) fn are_few_ends(switches: usize, steps: &[Step]) -> bool
-    requires few { switches ≤ 64 }
-    requires places { All (IsEndPlace switches) steps.now }
-    ensures { Decides result ((s : ℕ) → s < switches → ends_of s steps.now ≤ 65535) }
+pub(crate) fn are_few_ends(switches: &[u16], steps: &[Step]) -> bool
+    requires few { length switches.now ≤ 64 }
+    requires places { All (IsEndPlace (length switches.now)) steps.now }
+    ensures { Decides result ((s : ℕ) → s < length switches.now → ends_of s steps.now ≤ 65535) }
 {
     let mut ends = [0; 64];
     let mut ends_of_all: u64 = 0;
@@ -45,7 +45,7 @@ pub(crate) fn are_few_ends(switches: usize, steps: &[Step]) -> bool
             Step::Release => {}
         }
     }
-    for at in 0..switches {
+    for at in 0..switches.len() {
         if ends[at] + ends_of_all > 65535 {
             return false;
         }

@@ -9,7 +9,7 @@ use crate::apart::are_apart;
 use lg_model::{Ask, Fate, Flow, HostLine, Step};
 
 // Whether each host has at most 4,096 letters.
-pub(crate) fn are_hosts(hosts: &[HostLine]) -> bool
+pub(crate) fn hosts_fit(hosts: &[HostLine]) -> bool
     requires { All (λ h. h.name < 65536) hosts.now }
     ensures { Decides result (All IsHostLine hosts.now) }
 {
@@ -40,7 +40,7 @@ fn is_flow(hosts: usize, switches: usize, flow: &Flow) -> bool
         && are_apart(path)
 }
 
-pub(crate) fn are_flows(hosts: usize, switches: usize, flows: &[Flow]) -> bool
+pub(crate) fn flows_fit(hosts: usize, switches: usize, flows: &[Flow]) -> bool
     requires { All IsFlowRange flows.now }
     ensures { Decides result (All (λ f. IsFlow hosts switches f × IsFlowLine f) flows.now) }
 {
@@ -86,12 +86,12 @@ fn is_step(switches: usize, flows: &[Flow], step: &Step) -> bool
     }
 }
 
-pub(crate) fn are_steps(switches: usize, flows: &[Flow], steps: &[Step]) -> bool
+pub(crate) fn steps_fit(switches: &[u16], flows: &[Flow], steps: &[Step]) -> bool
     requires { All IsStepRange steps.now }
-    ensures { Decides result (All (λ t. IsStep switches flows.now t × IsStepLine t) steps.now) }
+    ensures { Decides result (All (λ t. IsStep (length switches.now) flows.now t × IsStepLine t) steps.now) }
 {
     for step in steps {
-        if !is_step(switches, flows, step) {
+        if !is_step(switches.len(), flows, step) {
             return false;
         }
     }
@@ -106,7 +106,7 @@ fn is_ask(switches: &[u16], flows: &[Flow], ask: &Ask) -> bool
     (ask.flow_at as usize) < flows.len() && switches.contains(&ask.switch)
 }
 
-pub(crate) fn are_asks(switches: &[u16], flows: &[Flow], asks: &[Ask]) -> bool
+pub(crate) fn asks_fit(switches: &[u16], flows: &[Flow], asks: &[Ask]) -> bool
     requires { All IsAskRange asks.now }
     ensures { Decides result (All (λ q. IsAsk flows.now q × IsAskLine switches.now q) asks.now) }
 {

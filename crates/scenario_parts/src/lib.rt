@@ -9,4 +9,9 @@ mod apart;
 mod counts;
 mod fits;
 mod lengths;
+mod lists;
+mod parts;
 mod ranges;
+mod sums;
+
+pub use parts::Parts;

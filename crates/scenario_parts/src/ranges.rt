@@ -77,8 +77,7 @@ fn fate_range(fate: Fate)
 
 fn delay_ranges(delays: &[u32])
     ensures { All (λ d. d < 4294967296) delays.now }
-{
-}
+{}
 
 fn step_range(step: &Step)
     ensures { IsStepRange step.now }
