@@ -9,3 +9,4 @@ pub mod WordsAgain
 pub mod NamesAgain
 pub mod LinesAgain
 pub mod TextAgain
+pub mod LengthLemmas
