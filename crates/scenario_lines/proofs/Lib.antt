@@ -4,3 +4,4 @@ pub mod CountLemmas
 pub mod SizeLemmas
 pub mod ReadableLemmas
 pub mod ScenarioLemmas
+pub mod WeightLemmas

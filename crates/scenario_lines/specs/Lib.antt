@@ -7,3 +7,4 @@ pub mod Readable
 pub mod Draft
 pub mod Fields
 pub mod Line
+pub mod Weight

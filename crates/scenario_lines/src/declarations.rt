@@ -1,5 +1,5 @@
 //! Declarations: hosts, switches, flows, links.
-ghost use Rattle.std.specs.Prelude.{◌≡◌, ◌==◌, ◌<◌, true, None, OnOk, length};
+ghost use Rattle.std.specs.Prelude.{◌≡◌, ◌==◌, ◌<◌, ◌≤◌, ◌+◌, true, None, OnOk, length};
 ghost use Rattle.std.specs.List.{position};
 ghost use Rattle.std.specs.Option.{option_copied};
 ghost use Rattle.flow_key.specs.Words.{words_left};
@@ -7,6 +7,8 @@ ghost use Rattle.scenario_lines.specs.Counts.{names_of};
 ghost use Rattle.scenario_lines.specs.declared.section.Keyword.TheVariants as words;
 ghost use Rattle.scenario_lines.specs.Sections.{has_place};
 ghost use Rattle.scenario_lines.specs.Draft.{view, Fits};
+ghost use Rattle.scenario_lines.specs.Spelling.{size};
+ghost use Rattle.scenario_lines.specs.Weight.{weight};
 ghost use Rattle.scenario_lines.specs.Fields.{Leaves, Gives, fresh_flow};
 ghost use Rattle.scenario_lines.specs.Line.{host_line, switch_line, flow_line, unlinked, linked, link_line};
 
@@ -34,6 +36,7 @@ impl Draft {
         requires { Fits self.old }
         ensures fits { OnOk result (Fits self.new) }
         ensures leaves { Leaves result (view self.new) (host_line (view self.old) (words_left 32 (option_copied text.entry))) }
+        ensures weight { OnOk result (weight (view self.new) ≤ weight (view self.old) + (5 + size (words_left 32 (option_copied text.entry)))) }
     {
         let (name, text) = number_field(text, 0, 65535)?;
         let name = name as u16;
@@ -52,6 +55,7 @@ impl Draft {
         requires place { has_place self.old.section words.Switch ≡ true }
         ensures fits { OnOk result (Fits self.new) }
         ensures leaves { Leaves result (view self.new) (switch_line (view self.old) (words_left 32 (option_copied text.entry))) }
+        ensures weight { OnOk result (weight (view self.new) ≤ weight (view self.old) + (7 + size (words_left 32 (option_copied text.entry)))) }
     {
         let (name, text) = number_field(text, 0, 65535)?;
         let name = name as u16;
@@ -79,6 +83,7 @@ impl Draft {
         requires { Fits self.old }
         ensures fits { OnOk result (Fits self.new) }
         ensures leaves { Leaves result (view self.new) (flow_line (view self.old) (words_left 32 (option_copied text.entry))) }
+        ensures weight { OnOk result (weight (view self.new) ≤ weight (view self.old) + (5 + size (words_left 32 (option_copied text.entry)))) }
     {
         let (name, text) = number_field(text, 0, 65535)?;
         let name = name as u16;
@@ -124,6 +129,7 @@ impl Draft {
         requires { Fits self.old }
         ensures fits { OnOk result (Fits self.new) }
         ensures leaves { Leaves result (view self.new) (link_line (view self.old) (words_left 32 (option_copied text.entry))) }
+        ensures weight { OnOk result (weight (view self.new) ≤ weight (view self.old) + (5 + size (words_left 32 (option_copied text.entry)))) }
     {
         let (host, text) = number_field(text, 0, 65535)?;
         let host = host as u16;

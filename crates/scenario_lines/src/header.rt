@@ -1,11 +1,13 @@
 //! The start of a text, its three first lines and its last line.
-ghost use Rattle.std.specs.Prelude.{◌≡◌, true, OnOk};
+ghost use Rattle.std.specs.Prelude.{◌≡◌, ◌≤◌, ◌+◌, true, OnOk, length};
 ghost use Rattle.std.specs.Option.{option_copied};
 ghost use Rattle.flow_key.specs.Words.{words_left};
 ghost use Rattle.scenario_lines.specs.declared.section.Keyword.TheVariants as words;
 ghost use Rattle.scenario_lines.specs.Sections.{is_first, has_place};
 ghost use Rattle.scenario_lines.specs.Draft.{view, start, Fits};
 ghost use Rattle.scenario_lines.specs.Fields.{Leaves};
+ghost use Rattle.scenario_lines.specs.Spelling.{size};
+ghost use Rattle.scenario_lines.specs.Weight.{weight};
 ghost use Rattle.scenario_lines.specs.Line.{first_line, shape_line, pick_line, done_line};
 
 use crate::draft::Draft;
@@ -47,6 +49,7 @@ impl Draft {
         requires place { is_first self.old.section ≡ true }
         ensures fits { OnOk result (Fits self.new) }
         ensures leaves { Leaves result (view self.new) (first_line (view self.old) line.now) }
+        ensures weight { OnOk result (weight (view self.new) ≤ weight (view self.old) + (length line.now + 1)) }
     {
         if is(line, b"guardian 1") {
             self.section = Section::Second;
@@ -63,6 +66,7 @@ impl Draft {
         requires place { has_place self.old.section words.Shape ≡ true }
         ensures fits { OnOk result (Fits self.new) }
         ensures leaves { Leaves result (view self.new) (shape_line (view self.old) (words_left 32 (option_copied text.entry))) }
+        ensures weight { OnOk result (weight (view self.new) ≤ weight (view self.old) + (6 + size (words_left 32 (option_copied text.entry)))) }
     {
         let (rows, text) = number_field(text, 1, 8)?;
         let (width, text) = number_field(text, 1, 4096)?;
@@ -82,6 +86,7 @@ impl Draft {
         requires place { has_place self.old.section words.Pick ≡ true }
         ensures fits { OnOk result (Fits self.new) }
         ensures leaves { Leaves result (view self.new) (pick_line (view self.old) (words_left 32 (option_copied text.entry))) }
+        ensures weight { OnOk result (weight (view self.new) ≤ weight (view self.old) + (5 + size (words_left 32 (option_copied text.entry)))) }
     {
         let (pick, text) = pick_field(text)?;
         end_field(text)?;
@@ -93,9 +98,11 @@ impl Draft {
     // What stands behind `done`.
     #[tactic(auto, unfolding(crate::specs::Line::done_line))]
     pub(crate) fn done(&mut self, text: Option<&[u8]>) -> Result<(), LineFault>
-        requires { Fits self.old }
+        requires fits { Fits self.old }
+        requires place { has_place self.old.section words.Done ≡ true }
         ensures fits { OnOk result (Fits self.new) }
         ensures leaves { Leaves result (view self.new) (done_line (view self.old) (words_left 32 (option_copied text.entry))) }
+        ensures weight { OnOk result (weight (view self.new) ≤ weight (view self.old) + (5 + size (words_left 32 (option_copied text.entry)))) }
     {
         end_field(text)?;
         self.section = Section::Done;

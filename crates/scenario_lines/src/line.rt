@@ -1,9 +1,11 @@
 //! One line of a text.
-ghost use Rattle.std.specs.Prelude.{◌≡◌, OnOk};
+ghost use Rattle.std.specs.Prelude.{◌≡◌, ◌≤◌, ◌+◌, length, OnOk};
 ghost use Rattle.flow_key.specs.Words.{words_at};
 ghost use Rattle.scenario_lines.specs.Draft.{view, Fits};
 ghost use Rattle.scenario_lines.specs.Fields.{Leaves};
 ghost use Rattle.scenario_lines.specs.Line.{known_line, words_line, line_of};
+ghost use Rattle.scenario_lines.specs.Spelling.{size};
+ghost use Rattle.scenario_lines.specs.Weight.{weight, first_size};
 ghost use Rattle.std.specs.Option.{option_copied};
 ghost use Rattle.flow_key.specs.Words.{words_left};
 
@@ -19,6 +21,7 @@ impl Draft {
         requires { Fits self.old }
         ensures fits { OnOk result (Fits self.new) }
         ensures leaves { Leaves result (view self.new) (known_line word (view self.old) (words_left 32 (option_copied text.entry))) }
+        ensures weight { OnOk result (weight (view self.new) ≤ weight (view self.old) + (first_size word + size (words_left 32 (option_copied text.entry)))) }
     {
         let Some(word) = word else {
             return Err(LineFault::Bad(Why::UnknownWord));
@@ -47,12 +50,14 @@ impl Draft {
         requires { Fits self.old }
         ensures fits { OnOk result (Fits self.new) }
         ensures leaves { Leaves result (view self.new) (words_line (view self.old) (words_at 32 line.now)) }
+        ensures weight { OnOk result (weight (view self.new) ≤ weight (view self.old) + (length line.now + 1)) }
     {
         let (first, text) = words::cut(line, b' ');
         self.form(Keyword::of(first), text)
     }
 
-    /// Takes the next line, given without its end. A line that is empty or begins with `#` is skipped.
+    /// Takes the next line, given without its end. A line that is empty or begins with `#` is skipped. What the parts
+    /// so far take when they are printed grows by at most the bytes of the line and one more for its end.
     ///
     /// `Bad` with a why exactly where the line is refused (docs/FORMATS.md, Scenario text), `Memory` where no memory
     /// was found. Behind an error the draft is to be dropped.
@@ -61,6 +66,7 @@ impl Draft {
         requires { Fits self.old }
         ensures fits { OnOk result (Fits self.new) }
         ensures leaves { Leaves result (view self.new) (line_of (view self.old) line.now) }
+        ensures weight { OnOk result (weight (view self.new) ≤ weight (view self.old) + (length line.now + 1)) }
     {
         match line {
             [] | [b'#', ..] => Ok(()),

@@ -1,10 +1,10 @@
 //! Fields with several parts: paths, letters and delays.
-ghost use Rattle.std.specs.Prelude.{◌≡◌, ◌≤◌, ◌<◌, ◌+◌, ◌∷◌, ◌==◌, [], All, Ok, false, length, map, IfOk, OnOk};
+ghost use Rattle.std.specs.Prelude.{◌≡◌, ◌≤◌, ◌<◌, ◌+◌, ◌∷◌, ◌==◌, [], All, Ok, false, length, map, slice_index, IfOk, OnOk};
 ghost use Rattle.std.specs.Fmt.{decimal};
 ghost use Rattle.std.specs.List.{list_all, list_any};
 ghost use Rattle.std.specs.Option.{option_copied};
 ghost use Rattle.flow_key.specs.Words.{words_left};
-ghost use Rattle.scenario_lines.specs.Spelling.{size};
+ghost use Rattle.scenario_lines.specs.Spelling.{size, path_words};
 ghost use Rattle.scenario_lines.specs.Readable.{AreApart};
 ghost use Rattle.scenario_lines.specs.Fields.{Gives, number, hop, path, is_letter, letter_of, letters_word, delays};
 
@@ -18,7 +18,8 @@ use std::alloc::Global;
 
 #[tactic(auto, unfolding(crate::specs::Fields::number))]
 fn name_in(word: &[u8]) -> Result<u16, LineFault>
-    ensures { Gives (λ n. (n, [])) result (number 0 65535 (word.now ∷ [])) }
+    ensures gives { Gives (λ n. (n, [])) result (number 0 65535 (word.now ∷ [])) }
+    ensures spelled { IfOk result (λ n. word.now ≡ decimal n) }
 {
     match words::number(word, 65535) {
         None => Err(LineFault::Bad(Why::BadNumber)),
@@ -34,6 +35,7 @@ fn next_hop(switches: &[u16], sofar: &[u16], word: &[u8]) -> Result<u16, LineFau
     ensures fits { OnOk result (length sofar.now < 16) }
     ensures bound { IfOk result (λ at. at < length switches.now) }
     ensures fresh { IfOk result (λ at. list_any (λ m. m == at) sofar.now ≡ false) }
+    ensures spelled { IfOk result (λ at. word.now ≡ decimal (slice_index switches.now at)) }
 {
     if sofar.len() == 16 {
         return Err(LineFault::Bad(Why::BadPath));
@@ -57,6 +59,7 @@ pub(crate) fn path_field(
     ensures short { IfOk result (λ v. length v.items ≤ 16) }
     ensures bound { IfOk result (λ v. All (λ at. at < length switches.now) v.items) }
     ensures once { IfOk result (λ v. AreApart v.items) }
+    ensures taken { IfOk result (λ v. size (words_left 32 (option_copied text.entry)) ≡ size (path_words switches.now v.items)) }
 {
     let mut hops: Vec<u16> = Vec::new(alloc);
     let mut left = text;
@@ -101,7 +104,8 @@ fn letter(b: u8) -> Letter
 }
 
 fn letters_in(alloc: Global, word: &[u8]) -> Result<Letters, LineFault>
-    ensures { Gives (λ x. x) result (Ok (map letter_of word.now)) }
+    ensures gives { Gives (λ x. x) result (Ok (map letter_of word.now)) }
+    ensures count { IfOk result (λ x. length x ≡ length word.now) }
 {
     let mut letters: Vec<Letter> = Vec::new(alloc);
     for b in word {
@@ -117,6 +121,7 @@ pub(crate) fn letters_field(
     text: Option<&[u8]>,
 ) -> Result<(Letters, Option<&[u8]>), LineFault>
     ensures few { IfOk result (λ x. length x.0 ≤ 4096) }
+    ensures taken { IfOk result (λ x. size (words_left 32 (option_copied text.entry)) ≡ length x.0 + 1 + size (words_left 32 (option_copied x.1))) }
     ensures gives { Gives (λ x. (x.0, words_left 32 (option_copied x.1))) result (letters_word (words_left 32 (option_copied text.entry))) }
 {
     let Some(text) = text else {

@@ -1,6 +1,7 @@
 //! The names of hosts and switches, which are few, looked up by their positions.
-ghost use Rattle.std.specs.Prelude.{◌≡◌, ◌≤◌, ◌<◌, ◌==◌, length, true, false, IfOk, IfSome, OnOk};
+ghost use Rattle.std.specs.Prelude.{◌≡◌, ◌≤◌, ◌<◌, ◌==◌, length, slice_index, true, false, IfOk, IfSome, OnOk};
 ghost use Rattle.std.specs.List.{position, list_any};
+ghost use Rattle.scenario_lines.specs.Spelling.{host_names};
 ghost use Rattle.scenario_lines.specs.Fields.{Gives, fresh, known, place, fresh_host, host_place};
 
 use crate::fault::LineFault;
@@ -36,6 +37,7 @@ pub(crate) fn known_name(names: &[u16], name: u16) -> Result<(), LineFault>
 fn find(names: &[u16], name: u16) -> Option<usize>
     ensures value { result ≡ position (λ m. m == name) names.now }
     ensures bound { IfSome result (λ i. i < length names.now) }
+    ensures named { IfSome result (λ i. slice_index names.now i ≡ name) }
 {
     names.iter().position(|m| *m == name)
 }
@@ -46,6 +48,7 @@ pub(crate) fn place_of(names: &[u16], name: u16) -> Result<u16, LineFault>
     requires { length names.now ≤ 65536 }
     ensures gives { Gives (λ x. x) result (place names.now name) }
     ensures bound { IfOk result (λ i. i < length names.now) }
+    ensures named { IfOk result (λ i. slice_index names.now i ≡ name) }
 {
     match find(names, name) {
         None => Err(LineFault::Bad(Why::UnknownName)),
@@ -75,6 +78,7 @@ pub(crate) fn new_host(hosts: &[HostLine], name: u16) -> Result<(), LineFault>
 fn find_host(hosts: &[HostLine], name: u16) -> Option<usize>
     ensures value { result ≡ position (λ h. h.name == name) hosts.now }
     ensures bound { IfSome result (λ i. i < length hosts.now) }
+    ensures named { IfSome result (λ i. slice_index (host_names hosts.now) i ≡ name) }
 {
     hosts.iter().position(|h| h.name == name)
 }
@@ -85,6 +89,7 @@ pub(crate) fn host_at(hosts: &[HostLine], name: u16) -> Result<u16, LineFault>
     requires { length hosts.now ≤ 64 }
     ensures gives { Gives (λ x. x) result (host_place hosts.now name) }
     ensures bound { IfOk result (λ i. i < length hosts.now) }
+    ensures named { IfOk result (λ i. slice_index (host_names hosts.now) i ≡ name) }
 {
     match find_host(hosts, name) {
         None => Err(LineFault::Bad(Why::UnknownName)),

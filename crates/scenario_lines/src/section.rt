@@ -1,6 +1,7 @@
 //! The sections of a text and the first words of lines.
-ghost use Rattle.std.specs.Prelude.{◌≡◌};
+ghost use Rattle.std.specs.Prelude.{◌≡◌, ◌+◌, length, IfSome};
 ghost use Rattle.scenario_lines.specs.Sections.{keyword_of, has_place};
+ghost use Rattle.scenario_lines.specs.Weight.{keyword_size};
 
 use flow_key::words::is;
 
@@ -54,7 +55,8 @@ impl Keyword {
     // The first word that this word is.
     #[tactic(auto, unfolding(crate::specs::Sections::keyword_of))]
     pub(crate) fn of(word: &[u8]) -> Option<Keyword>
-        ensures { result ≡ keyword_of word.now }
+        ensures value { result ≡ keyword_of word.now }
+        ensures taken { IfSome result (λ k. length word.now + 1 ≡ keyword_size k) }
     {
         if is(word, b"guardian") {
             Some(Keyword::Guardian)

@@ -1,9 +1,13 @@
 //! Steps and asks.
-ghost use Rattle.std.specs.Prelude.{◌≡◌, ◌<◌, ◌≤◌, IfOk, OnOk, length, slice_index};
+ghost use Rattle.std.specs.Prelude.{◌≡◌, ◌<◌, ◌≤◌, ◌+◌, IfOk, OnOk, true, length, slice_index};
 ghost use Rattle.std.specs.Option.{option_copied};
 ghost use Rattle.flow_key.specs.Words.{words_left};
 ghost use Rattle.scenario_lines.specs.Counts.{names_of, path_at, ends_of};
+ghost use Rattle.scenario_lines.specs.declared.section.Keyword.TheVariants as words;
+ghost use Rattle.scenario_lines.specs.Sections.{has_place};
 ghost use Rattle.scenario_lines.specs.Draft.{view, Fits};
+ghost use Rattle.scenario_lines.specs.Spelling.{size};
+ghost use Rattle.scenario_lines.specs.Weight.{weight};
 ghost use Rattle.scenario_lines.specs.Fields.{Leaves, Gives, place, all_room, room_for_all};
 ghost use Rattle.scenario_lines.specs.Line.{packet_line, end_line, end_one, end_all, release_line, ask_line};
 
@@ -46,9 +50,11 @@ impl Draft {
     // What stands behind `packet`.
     #[tactic(auto, unfolding(crate::specs::Line::packet_line))]
     pub(crate) fn packet(&mut self, text: Option<&[u8]>) -> Result<(), LineFault>
-        requires { Fits self.old }
+        requires fits { Fits self.old }
+        requires place { has_place self.old.section words.Packet ≡ true }
         ensures fits { OnOk result (Fits self.new) }
         ensures leaves { Leaves result (view self.new) (packet_line (view self.old) (words_left 32 (option_copied text.entry))) }
+        ensures weight { OnOk result (weight (view self.new) ≤ weight (view self.old) + (7 + size (words_left 32 (option_copied text.entry)))) }
     {
         let (name, text) = number_field(text, 0, 65535)?;
         let flow_at = self.flow_at(name as u16)?;
@@ -98,9 +104,11 @@ impl Draft {
 
     #[tactic(auto, unfolding(crate::specs::Line::end_one))]
     fn end_of_one(&mut self, text: Option<&[u8]>) -> Result<(), LineFault>
-        requires { Fits self.old }
+        requires fits { Fits self.old }
+        requires place { has_place self.old.section words.End ≡ true }
         ensures fits { OnOk result (Fits self.new) }
         ensures leaves { Leaves result (view self.new) (end_one (view self.old) (words_left 32 (option_copied text.entry))) }
+        ensures weight { OnOk result (weight (view self.new) ≤ weight (view self.old) + (4 + size (words_left 32 (option_copied text.entry)))) }
     {
         let (switch, text) = number_field(text, 0, 65535)?;
         let switch = switch as u16;
@@ -115,9 +123,11 @@ impl Draft {
 
     #[tactic(auto, unfolding(crate::specs::Line::end_all, crate::specs::Fields::room_for_all))]
     fn end_of_all(&mut self, text: Option<&[u8]>) -> Result<(), LineFault>
-        requires { Fits self.old }
+        requires fits { Fits self.old }
+        requires place { has_place self.old.section words.End ≡ true }
         ensures fits { OnOk result (Fits self.new) }
         ensures leaves { Leaves result (view self.new) (end_all (view self.old) (words_left 32 (option_copied text.entry))) }
+        ensures weight { OnOk result (weight (view self.new) ≤ weight (view self.old) + (8 + size (words_left 32 (option_copied text.entry)))) }
     {
         end_field(text)?;
         if !self.has_room(self.switches.len()) {
@@ -132,9 +142,11 @@ impl Draft {
     // What stands behind `end`.
     #[tactic(auto, unfolding(crate::specs::Line::end_line))]
     pub(crate) fn end(&mut self, text: Option<&[u8]>) -> Result<(), LineFault>
-        requires { Fits self.old }
+        requires fits { Fits self.old }
+        requires place { has_place self.old.section words.End ≡ true }
         ensures fits { OnOk result (Fits self.new) }
         ensures leaves { Leaves result (view self.new) (end_line (view self.old) (words_left 32 (option_copied text.entry))) }
+        ensures weight { OnOk result (weight (view self.new) ≤ weight (view self.old) + (4 + size (words_left 32 (option_copied text.entry)))) }
     {
         let Some(line) = text else {
             return Err(LineFault::Bad(Why::WordCount));
@@ -150,9 +162,11 @@ impl Draft {
     // What stands behind `release`.
     #[tactic(auto, unfolding(crate::specs::Line::release_line))]
     pub(crate) fn release(&mut self, text: Option<&[u8]>) -> Result<(), LineFault>
-        requires { Fits self.old }
+        requires fits { Fits self.old }
+        requires place { has_place self.old.section words.Release ≡ true }
         ensures fits { OnOk result (Fits self.new) }
         ensures leaves { Leaves result (view self.new) (release_line (view self.old) (words_left 32 (option_copied text.entry))) }
+        ensures weight { OnOk result (weight (view self.new) ≤ weight (view self.old) + (8 + size (words_left 32 (option_copied text.entry)))) }
     {
         end_field(text)?;
         self.steps.push(Step::Release)?;
@@ -163,9 +177,11 @@ impl Draft {
     // What stands behind `ask`.
     #[tactic(auto, unfolding(crate::specs::Line::ask_line))]
     pub(crate) fn ask(&mut self, text: Option<&[u8]>) -> Result<(), LineFault>
-        requires { Fits self.old }
+        requires fits { Fits self.old }
+        requires place { has_place self.old.section words.Ask ≡ true }
         ensures fits { OnOk result (Fits self.new) }
         ensures leaves { Leaves result (view self.new) (ask_line (view self.old) (words_left 32 (option_copied text.entry))) }
+        ensures weight { OnOk result (weight (view self.new) ≤ weight (view self.old) + (4 + size (words_left 32 (option_copied text.entry)))) }
     {
         let (flow, text) = number_field(text, 0, 65535)?;
         let flow_at = self.flow_at(flow as u16)?;

@@ -9,7 +9,7 @@ ghost use Rattle.scenario_parts.specs.Printed.{text_of};
 ghost use Rattle.scenario_parts.specs.Whole.{IsWhole};
 
 use crate::lengths::{pick_len, shape_len};
-use crate::lists::{are_asks, are_declared, are_named, are_steps};
+use crate::lists::{are_asks, are_declared, are_steps};
 use crate::ranges::{
     ask_ranges, flow_ranges, hash_range, host_ranges, pick_range, step_ranges, switch_ranges,
 };

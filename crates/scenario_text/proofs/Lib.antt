@@ -11,3 +11,4 @@ pub mod LinesAgain
 pub mod TextAgain
 pub mod GoodLines
 pub mod GoodText
+pub mod LengthLemmas

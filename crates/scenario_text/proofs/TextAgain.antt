@@ -250,5 +250,5 @@ reads_whole : (text : List ℕ) (w : Scenario) → Reads start text w → length
 unfolding reading
 reads_whole text w reads short = rw (take_all most_bytes text short) (reads _ 1)
 
-pub printed : (w : Scenario) → IsWhole w → length (text_of w) ≤ 16777216 → reading (text_of w) ≡ Ok w
-printed w h short = reads_whole (text_of w) w (first w (declared_text w ++ happening_text w) h (declared w (happening_text w) h (happening w h))) short
+pub printed : (w : Scenario) → IsWhole w → reading (text_of w) ≡ Ok w
+printed w h = reads_whole (text_of w) w (first w (declared_text w ++ happening_text w) h (declared w (happening_text w) h (happening w h))) h.short

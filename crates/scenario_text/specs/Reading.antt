@@ -3,6 +3,8 @@ use Rattle.std.specs.Prelude.{◌≡◌, ℕ, ◌+◌, ◌≤◌, ◌-◌, ◌==
 use Rattle.flow_key.specs.Words.{words_at}
 use Rattle.lg_model.specs.Scenario.{Scenario}
 use Rattle.scenario_lines.specs.Draft.{view, scenario_of, Fits}
+use Rattle.scenario_lines.specs.Weight.{weight}
+use Rattle.scenario_parts.specs.Printed.{text_of}
 use Rattle.scenario_text.specs.declared.fault.ScenarioFault.{ScenarioFault}
 use Rattle.scenario_text.specs.declared.fault.ScenarioFault.TheVariants as faults
 use Rattle.scenario_text.specs.declared.reader.Reader.{Reader}
@@ -40,6 +42,17 @@ Spent old piece new (Ok false) = (more : List ℕ) → needs old (piece ++ more)
 Spent old piece new (Err (faults.Bad line why)) = (more : List ℕ) → needs old (piece ++ more) ≤ length old.pending.items + length piece
 Spent old piece new (Err faults.ReadFault) = ⊥
 Spent old piece new (Err faults.Memory) = Unit {0}
+
+-- The bytes that the parts so far take when they are printed, and those of the pending line.
+abbrev pub held : Reader → ℕ
+held r = weight (view r.draft) + length r.pending.items
+
+-- What the parts take when they are printed after feeding this many bytes: no more bytes than were fed. Behind `done`
+-- that is the text of the scenario.
+abbrev pub Holds : Reader → ℕ → Reader → Result Bool ScenarioFault → Type 0
+Holds old count new (Ok true) = length (text_of (scenario_of (view new.draft))) ≤ held old + count
+Holds old count new (Ok false) = held new ≤ held old + count
+Holds old count new (Err e) = Unit {0}
 
 -- The source still has some bytes of the input, and with them the rest of what the input says.
 pub record StillSays (input : List ℕ) (taken : ℕ) (left : Option (List ℕ)) (r : Reader) : Type 0 where

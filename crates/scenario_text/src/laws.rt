@@ -1,5 +1,5 @@
 //! Laws over the definitions, each on a function with an empty body.
-ghost use Rattle.std.specs.Prelude.{◌≡◌, ◌≤◌, ℕ, List, Ok, length};
+ghost use Rattle.std.specs.Prelude.{◌≡◌, ℕ, List, Ok};
 ghost use Rattle.lg_model.specs.Scenario.{Scenario};
 ghost use Rattle.scenario_parts.specs.Printed.{text_of};
 ghost use Rattle.scenario_parts.specs.Whole.{IsWhole};
@@ -16,7 +16,8 @@ pub fn worked_texts()
     ensures { WorkedTexts }
 {}
 
-/// What a scenario is printed as is read as that scenario.
+/// What a scenario is printed as is read as that scenario. Every `Scenario` is whole: its text has at most 16,777,216
+/// bytes.
 pub fn printed_is_read()
-    ensures { (w : Scenario) → IsWhole w → length (text_of w) ≤ 16777216 → reading (text_of w) ≡ Ok w }
+    ensures { (w : Scenario) → IsWhole w → reading (text_of w) ≡ Ok w }
 {}

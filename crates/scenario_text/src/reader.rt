@@ -2,9 +2,10 @@
 ghost use Rattle.std.specs.Prelude.{◌≡◌, ◌≢◌, ◌+◌, ◌<◌, ◌≤◌, ◌^◌, [], ◌∷◌, length, IfErr, OnOk, Err, true, false};
 ghost use Rattle.std.specs.Str.Lines.{strip_carriage_return};
 ghost use Rattle.scenario_lines.specs.Draft.{view, start, scenario_of, Fits};
+ghost use Rattle.scenario_parts.specs.Printed.{text_of};
 ghost use Rattle.scenario_text.specs.declared.fault.ScenarioFault.TheVariants.{ReadFault};
 ghost use Rattle.scenario_text.specs.Text.{Answers};
-ghost use Rattle.scenario_text.specs.Reading.{Fed, Spent, IsReader, from_here};
+ghost use Rattle.scenario_text.specs.Reading.{Fed, Spent, Holds, held, IsReader, from_here};
 
 use crate::fault::ScenarioFault;
 use crate::scenario::Scenario;
@@ -20,7 +21,8 @@ pub(crate) struct Reader {
 }
 
 fn without_return(line: &[u8]) -> &[u8]
-    ensures { result.now ≡ strip_carriage_return line.now }
+    ensures value { result.now ≡ strip_carriage_return line.now }
+    ensures short { length result.now ≤ length line.now }
 {
     if line.is_empty() || line[line.len() - 1] != 13 {
         line
@@ -49,6 +51,7 @@ impl Reader {
         requires short { self.old.line + 1 < 2 ^ 32 }
         ensures fed { Fed self.old (10 ∷ []) self.new result }
         ensures spent { Spent self.old (10 ∷ []) self.new result }
+        ensures weight { Holds self.old 1 self.new result }
         ensures reader { OnOk result (IsReader self.new) }
         ensures short { self.new.line ≤ self.old.line + 1 }
     {
@@ -75,6 +78,7 @@ impl Reader {
         requires short { self.old.line + 1 < 2 ^ 32 }
         ensures fed { Fed self.old (b ∷ []) self.new result }
         ensures spent { Spent self.old (b ∷ []) self.new result }
+        ensures weight { Holds self.old 1 self.new result }
         ensures reader { OnOk result (IsReader self.new) }
         ensures short { self.new.line ≤ self.old.line + 1 }
     {
@@ -94,6 +98,7 @@ impl Reader {
         requires short { self.old.line + length piece.now < 2 ^ 32 }
         ensures fed { Fed self.old piece.now self.new result }
         ensures spent { Spent self.old piece.now self.new result }
+        ensures weight { Holds self.old (length piece.now) self.new result }
         ensures reader { OnOk result (IsReader self.new) }
         ensures short { self.new.line ≤ self.old.line + length piece.now }
     {
@@ -109,7 +114,8 @@ impl Reader {
 
     // The end of the input: an unfinished last line may be `done`.
     pub(crate) fn end(mut self) -> Result<Scenario, ScenarioFault>
-        requires { IsReader self }
+        requires reader { IsReader self }
+        requires short { held self < 16777216 }
         ensures says { Answers result (from_here false self []) }
         ensures no_fault { IfErr result (λ e. e ≢ ReadFault) }
     {
@@ -147,7 +153,8 @@ impl Reader {
 
     // The scenario of the lines so far.
     pub(crate) fn scenario(self) -> Scenario
-        requires { Fits self.draft }
+        requires fits { Fits self.draft }
+        requires short { length (text_of (scenario_of (view self.draft))) ≤ 16777216 }
         ensures { result ≡ scenario_of (view self.draft) }
     {
         let Reader { draft, .. } = self;

@@ -1,6 +1,7 @@
 //! Scenarios.
-ghost use Rattle.std.specs.Prelude.{◌≡◌};
+ghost use Rattle.std.specs.Prelude.{◌≡◌, ◌≤◌, length};
 ghost use Rattle.lg_model.specs.Scenario as model;
+ghost use Rattle.scenario_parts.specs.Printed.{text_of};
 ghost use Rattle.scenario_parts.specs.Whole.{IsWhole};
 ghost use Rattle.scenario_lines.specs.Draft.{view, scenario_of, Fits};
 
@@ -11,8 +12,8 @@ use std::marker::Model;
 
 /// A scenario (docs/FORMATS.md, Scenario text): a shape, a pick, and lists of hosts, switches, flows, steps and asks.
 /// Steps and asks name flows by their positions, flows name hosts and switches so, and an ask names its switch by its
-/// name. All positions are in range, no limit is passed, and hosts, switches and flows have names of their own, so that
-/// the lines that say the parts can be read again.
+/// name. All positions are in range, no limit is passed, hosts, switches and flows have names of their own, and the text
+/// has at most 16,777,216 bytes, so that what is printed can be read again.
 #[derive(Debug, Drop)]
 pub struct Scenario {
     shape: Shape,
@@ -38,7 +39,8 @@ impl Model for Scenario {
 impl Scenario {
     // The scenario of what the lines of a text have said.
     pub(crate) fn of(draft: Draft) -> Scenario
-        requires { Fits draft }
+        requires fits { Fits draft }
+        requires short { length (text_of (scenario_of (view draft))) ≤ 16777216 }
         ensures { result ≡ scenario_of (view draft) }
     {
         let Draft {

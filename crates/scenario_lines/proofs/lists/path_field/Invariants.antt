@@ -1,6 +1,7 @@
-use Rattle.std.proofs.Common.{◌≡◌, ◌≤◌, ◌<◌, [], length, All}
+use Rattle.std.proofs.Common.{◌≡◌, ◌≤◌, ◌<◌, ◌+◌, [], length, All}
 use Rattle.std.specs.Option.{option_copied}
 use Rattle.flow_key.specs.Words.{words_left}
+use Rattle.scenario_lines.specs.Spelling.{size, path_words}
 use Rattle.scenario_lines.specs.Readable.{AreApart}
 use Rattle.scenario_lines.specs.Fields.{path}
 use Rattle.scenario_lines.proofs.lists.path_field.Given as goal
@@ -11,6 +12,7 @@ invariant-loop-left l = record {
   short : length l.hops.items ≤ 16;
   bound : All (λ at. at < length l.switches) l.hops.items;
   once : AreApart l.hops.items;
+  taken : size (path_words l.switches l.hops.items) + size (words_left 32 (option_copied l.left)) ≡ size (words_left 32 (option_copied l.fn.text));
 }
 
 abbrev pub decreases-loop-left : goal.decreases-loop-left

@@ -1,6 +1,8 @@
-use Rattle.std.proofs.Common.{◌+◌, ◌≤◌, arith, lit≤, Err}
+use Rattle.std.proofs.Common.{◌+◌, ◌≤◌, arith, ap, length, lit≤, Err}
 use Rattle.std.proofs.lemmas.List.{length-take}
+use Rattle.scenario_lines.specs.Draft.{view}
 use Rattle.scenario_text.specs.Text.{most_bytes}
+use Rattle.scenario_text.proofs.LengthLemmas.{nothing_weighs}
 use Rattle.scenario_text.proofs.ReadLemmas.{says_first, says_more, says_done, says_bad, says_end}
 use Rattle.scenario_text.proofs.TookLemmas.{needs_first, needs_more, took_done, took_bad, took_end, took_stop}
 use Rattle.scenario_text.proofs.reading.read.Goals as goal
@@ -10,6 +12,7 @@ loop-taken-init g c = record {
   says = says_first (g.S.Source.left c.args.source.now) c.new-reader.result c.new-reader.ensures.pending c.new-reader.ensures.line c.new-reader.ensures.start;
   needs = needs_first (g.S.Source.left c.args.source.now) c.new-reader.result c.new-reader.ensures.pending c.new-reader.ensures.start;
   reader = c.new-reader.ensures.reader;
+  weight = omega (arith, nothing_weighs (view c.new-reader.result.draft) c.new-reader.ensures.start, ap length c.new-reader.ensures.pending);
   short = omega (arith, c.new-reader.ensures.line);
   most = lit≤ tt;
   counts = omega arith;
@@ -38,12 +41,14 @@ loop-taken-preserved g c =
     let le : c.loop-taken.taken + c.in_ok-n.n ≤ most_bytes = omega (arith, c.in_ok-n.ensures.count) in
     let fed = rw c.in-Ok-false.field-0-test at c.in-Ok-false.ensures.fed in
     let spent = rw c.in-Ok-false.field-0-test at c.in-Ok-false.ensures.spent in
+    let weight = rw c.in-Ok-false.field-0-test at c.in-Ok-false.ensures.weight in
     record {
       says = says_more (g.S.Source.left c.args.source.now) (g.S.Source.left c.loop-taken.source) (g.S.Source.left c.next_piece.new.source) c.loop-taken.taken c.in_ok-n.n c.min-want.result c.loop-taken.reader c.feed.new.self c.next_piece.new.buf
           le c.loop-taken.invariant.says c.in_ok-n.ensures.bytes fed;
       needs = needs_more (g.S.Source.left c.args.source.now) (g.S.Source.left c.loop-taken.source) (g.S.Source.left c.next_piece.new.source) c.loop-taken.taken c.in_ok-n.n c.min-want.result c.loop-taken.reader c.feed.new.self c.next_piece.new.buf
           le c.loop-taken.invariant.needs c.in_ok-n.ensures.bytes spent;
       reader = c.in-Ok-false.ensures.reader;
+      weight = omega (arith, weight, c.loop-taken.invariant.weight, length-take c.in_ok-n.n c.next_piece.new.buf);
       short = omega (arith, c.in-Ok-false.ensures.short, c.loop-taken.invariant.short, length-take c.in_ok-n.n c.next_piece.new.buf);
       most = le;
       counts = omega (arith, c.loop-taken.invariant.counts, c.in_ok-n.ensures.never_falls);

@@ -1,8 +1,11 @@
-use Rattle.std.proofs.Common.{◌<◌, arith, length, ap}
+use Rattle.std.proofs.Common.{◌<◌, arith, length, ap, ℕ, List}
 use Rattle.lg_model.specs.declared.scenario.Flow.{Flow}
 use Rattle.scenario_lines.specs.Readable.{IsFlowLine}
 use Rattle.scenario_lines.specs.Draft.{view}
 use Rattle.scenario_lines.proofs.ScenarioLemmas.{flow_fits, flow_more}
+use Rattle.scenario_lines.proofs.WeightLemmas.{flow_weighs}
+use Rattle.std.specs.Fmt.{decimal}
+use Rattle.scenario_lines.specs.Spelling.{size, path_words}
 use Rattle.scenario_lines.proofs.draft.Draft.flow.Goals as goal
 
 pub returns-clause-fits : goal.returns-clause-fits
@@ -13,3 +16,22 @@ returns-clause-fits c =
     let fits = flow_fits (length c.args.self.now.hosts.items) (length c.args.self.now.switches.items) flow c.in_ok-hops.hops.items c.new-path.ensures at hops c.in_ok-hops.ensures.some c.in_ok-hops.ensures.short in
     let line : IsFlowLine flow = record { name = omega (arith, c.in_ok-name.ensures.bound); key = c.in_ok-key.ensures.fits; once = rw c.new-path.ensures c.in_ok-hops.ensures.once } in
     flow_more (view c.args.self.now) c.put_flow.new.flows.items flow c.put_flow.new.places.items c.requires fits c.in_ok-put_flow.ensures.added line (omega (arith, c.in_ok-room_for.ensures.fits)) c.put_flow.ensures.indexed
+
+pub returns-clause-weight : goal.returns-clause-weight
+returns-clause-weight c =
+    let flow : Flow = record { name = c.in_ok-name.name; key = c.in_ok-key.key; host_at = c.in_ok-host_at.host_at; path = c.new-path.result } in
+    let host = rw c.deref.ensures.value at c.in_ok-host_at.ensures.named in
+    let hops = rw c.deref-2.ensures.value at c.in_ok-hops.ensures.taken in
+    let path = ap (λ (at : List ℕ). size (path_words c.args.self.now.switches.items at)) c.new-path.ensures in
+    omega (
+      arith,
+      flow_weighs (view c.args.self.now) c.put_flow.new.flows.items flow c.requires c.in_ok-put_flow.ensures.added,
+      ap (λ (n : ℕ). length (decimal n)) host,
+      path,
+      hops,
+      c.in_ok-name.ensures.taken,
+      c.in_ok-key.ensures.taken,
+      c.in_ok-text.ensures.taken,
+      c.in_ok-host.ensures.taken,
+      c.in_ok-text-2.ensures.taken,
+    )
