@@ -1,20 +1,24 @@
--- The bytes of lines, one part after the other.
-use Rattle.std.proofs.Common.{◌≡◌, ℕ, ◌+◌, ◌-◌, ◌<◌, ◌≤◌, Option, Some, None, List, [], ◌∷◌, ◌++◌, length, length-append, get_or, map, take, refl, ◌∙◌, ap, arith, ◌⊎◌, inl, inr}
-use Rattle.std.specs.Prelude.{codes}
-use Rattle.std.specs.List.{sum_by, flat_map}
+-- The bytes of lines, one part after the other, and of the whole text.
+use Rattle.std.proofs.Common.{◌≡◌, ℕ, ◌+◌, ◌-◌, ◌<◌, ◌≤◌, Bool, true, false, eqb, Option, Some, None, List, [], ◌∷◌, ◌++◌, length, length-append, get_or, map, take, refl, ◌∙◌, ap, arith, ◌⊎◌, inl, inr}
+use Rattle.std.specs.Prelude.{sum_by}
+use Rattle.std.specs.List.{flat_map}
 use Rattle.std.specs.Fmt.{decimal}
 use Rattle.std.proofs.lemmas.Bool.{cases_lt}
 use Rattle.std.proofs.lemmas.List.Concat.{length-flat_map}
-use Rattle.std.proofs.lemmas.List.Sums.{sum_by-cons, sum_by_more_le}
+use Rattle.std.proofs.lemmas.List.Sums.{sum_by_more_le}
+use Rattle.lg_model.specs.declared.scenario.HostLine.{HostLine}
 use Rattle.lg_model.specs.declared.scenario.Fate.{Fate}
 use Rattle.lg_model.specs.declared.scenario.Flow.{Flow}
 use Rattle.lg_model.specs.declared.scenario.Step.{Step}
 use Rattle.lg_model.specs.declared.scenario.Step.TheVariants as steps
 use Rattle.lg_model.specs.Scenario.{Scenario}
-use Rattle.scenario_lines.specs.Spelling.{Words, spaced, joined, line_text, size, burst_words, fate_words, guardian_words, done_words, shape_words, pick_line_words, host_words, switch_words, flow_words, step_words, ask_words}
-use Rattle.scenario_parts.specs.Printed.{lines_text, link_text, text_of}
-use Rattle.scenario_parts.specs.Lengths.{Leaves, lines_size, outer_size, declared_size, happening_size}
+use Rattle.scenario_lines.specs.declared.section.Section.TheVariants.{Done}
+use Rattle.scenario_lines.specs.Spelling.{Words, spaced, line_text, size, burst_words, fate_words, guardian_words, shape_words, pick_line_words, host_words, switch_words, flow_words, link_words, step_words, ask_words, done_words}
+use Rattle.scenario_lines.specs.Weight.{frame_size, link_size, declared_size, happening_size}
 use Rattle.scenario_lines.proofs.SizeLemmas.{size_append}
+use Rattle.scenario_lines.proofs.WeightLemmas.{sum_same}
+use Rattle.scenario_parts.specs.Printed.{lines_text, link_text, first_text, declared_text, happening_text, text_of}
+use Rattle.scenario_parts.specs.Lengths.{Leaves}
 
 -- One part takes more than is left, so all take more than there was.
 pub ran_out : {X : Type 0} (f : X → ℕ) (xs : List X) (i : ℕ) (d : X) (room left : ℕ) → i < length xs → left + sum_by f (take i xs) ≡ room → (f (get_or xs i d) ≤ left → ⊥) → room < sum_by f xs
@@ -34,55 +38,67 @@ tail_size ds n x = size_append (map decimal ds) (burst_words n ++ fate_words x) 
 
 spaced_size : (ws : Words) → length (spaced ws) ≡ size ws
 spaced_size [] = refl
-spaced_size (w ∷ ws) = let more = length-append w (spaced ws) in omega (arith, more, spaced_size ws)
+spaced_size (w ∷ ws) = omega (arith, length-append w (spaced ws), spaced_size ws)
 
 line_size : (ws : Words) → 0 < length ws → length (line_text ws) ≡ size ws
-line_size [] some = absurd (omega (arith, some))
-line_size (w ∷ ws) some =
-    let outer = length-append (joined (w ∷ ws)) (10 ∷ []) in
-    let inner = length-append w (spaced ws) in
-    omega (arith, outer, inner, spaced_size ws)
+line_size [] some = absurd (omega arith)
+line_size (w ∷ ws) some = omega (arith, length-append (w ++ spaced ws) (10 ∷ []), length-append w (spaced ws), spaced_size ws)
 
-lines_len : {X : Type 0} (words : X → Words) (xs : List X) → ((x : X) → length (line_text (words x)) ≡ size (words x)) → length (lines_text words xs) ≡ lines_size words xs
-lines_len words [] each = refl
-lines_len words (x ∷ xs) each =
-    let more = length-append (line_text (words x)) (lines_text words xs) in
-    let all = sum_by-cons (λ y. size (words y)) x xs in
-    omega (arith, more, each x, lines_len words xs each, all)
+pieces_size : {X : Type 0} (piece : X → List ℕ) (bytes : X → ℕ) (xs : List X) → ((x : X) → length (piece x) ≡ bytes x) → length (flat_map piece xs) ≡ sum_by bytes xs
+pieces_size piece bytes xs same = length-flat_map piece xs ∙ sum_same (λ x. length (piece x)) bytes xs (λ k d lt. same (get_or xs k d))
+
+link_text_size : (h : HostLine) (b : Bool) → eqb (length h.letters) 0 ≡ b → length (link_text h) ≡ link_size h
+link_text_size h true is = rw is refl
+link_text_size h false is = rw is (line_size (link_words h) (omega arith))
 
 step_size : (flows : List Flow) (switches : List ℕ) (t : Step) → length (line_text (step_words flows switches t)) ≡ size (step_words flows switches t)
-step_size flows switches (steps.Packet at n delays burst x) = line_size (step_words flows switches (steps.Packet at n delays burst x)) (omega arith)
+step_size flows switches (steps.Packet at bytes delays burst x) = line_size (step_words flows switches (steps.Packet at bytes delays burst x)) (omega arith)
 step_size flows switches (steps.End at) = line_size (step_words flows switches (steps.End at)) (omega arith)
 step_size flows switches steps.EndAll = line_size (step_words flows switches steps.EndAll) (omega arith)
 step_size flows switches steps.Release = line_size (step_words flows switches steps.Release) (omega arith)
 
--- The bytes of all lines.
-abbrev total : Scenario → ℕ
-total w = outer_size w.shape w.pick + declared_size w.hosts w.switches w.flows + happening_size w.switches w.flows w.steps w.asks
+three : (a b c : List ℕ) → length (a ++ (b ++ c)) ≡ (length a + length b) + length c
+three a b c = omega (arith, length-append a (b ++ c), length-append b c)
 
-ten_parts : (a b c d e f g h i j : List ℕ) → length ((a ++ (b ++ c)) ++ ((d ++ (e ++ (f ++ g))) ++ (h ++ (i ++ j)))) ≡ length a + length b + length c + (length d + length e + length f + length g) + (length h + length i + length j)
-ten_parts a b c d e f g h i j = rw (length-append (a ++ (b ++ c)) ((d ++ (e ++ (f ++ g))) ++ (h ++ (i ++ j))), length-append a (b ++ c), length-append b c, length-append (d ++ (e ++ (f ++ g))) (h ++ (i ++ j)), length-append d (e ++ (f ++ g)), length-append e (f ++ g), length-append f g, length-append h (i ++ j), length-append i j) (omega arith)
-
-text_len : (w : Scenario) → length (text_of w) ≡ total w
-text_len w =
-    let guardian : length (line_text guardian_words) ≡ 11 = refl in
-    let done : length (line_text done_words) ≡ 5 = refl in
+first_size : (w : Scenario) → length (first_text w) ≡ (size guardian_words + size (shape_words w.shape)) + size (pick_line_words w.pick)
+first_size w =
+    let guardian = line_size guardian_words (omega arith) in
     let shape = line_size (shape_words w.shape) (omega arith) in
     let pick = line_size (pick_line_words w.pick) (omega arith) in
-    let hosts = lines_len host_words w.hosts (λ h. line_size (host_words h) (omega arith)) in
-    let switches = lines_len switch_words w.switches (λ n. line_size (switch_words n) (omega arith)) in
-    let flows = lines_len (flow_words w.hosts w.switches) w.flows (λ f. line_size (flow_words w.hosts w.switches f) (omega arith)) in
-    let links = length-flat_map link_text w.hosts in
-    let steps = lines_len (step_words w.flows w.switches) w.steps (step_size w.flows w.switches) in
-    let asks = lines_len (ask_words w.flows) w.asks (λ q. line_size (ask_words w.flows q) (omega arith)) in
-    let parts = ten_parts (line_text guardian_words) (line_text (shape_words w.shape)) (line_text (pick_line_words w.pick)) (lines_text host_words w.hosts) (lines_text switch_words w.switches) (lines_text (flow_words w.hosts w.switches) w.flows) (flat_map link_text w.hosts) (lines_text (step_words w.flows w.switches) w.steps) (lines_text (ask_words w.flows) w.asks) (line_text done_words) in
-    omega (arith, parts, guardian, shape, pick, hosts, switches, flows, links, steps, asks, done)
+    three (line_text guardian_words) (line_text (shape_words w.shape)) (line_text (pick_line_words w.pick)) ∙ omega (arith, guardian, shape, pick)
 
--- The declarations take more than is left behind the outer lines.
-pub over_text : (w : Scenario) (outer : ℕ) → outer ≡ outer_size w.shape w.pick → outer ≤ 16777216 → 16777216 - outer < declared_size w.hosts w.switches w.flows → 16777216 < length (text_of w)
-over_text w outer is few over = omega (arith, text_len w, is, few, over)
+declared_size_is : (w : Scenario) → length (declared_text w) ≡ declared_size w.hosts w.switches w.flows
+declared_size_is w =
+    let hosts = pieces_size (λ h. line_text (host_words h)) (λ h. size (host_words h)) w.hosts (λ h. line_size (host_words h) (omega arith)) in
+    let switches = pieces_size (λ n. line_text (switch_words n)) (λ n. size (switch_words n)) w.switches (λ n. line_size (switch_words n) (omega arith)) in
+    let flows = pieces_size (λ f. line_text (flow_words w.hosts w.switches f)) (λ f. size (flow_words w.hosts w.switches f)) w.flows (λ f. line_size (flow_words w.hosts w.switches f) (omega arith)) in
+    let links = pieces_size link_text link_size w.hosts (λ h. link_text_size h (eqb (length h.letters) 0) refl) in
+    omega (
+      arith,
+      hosts,
+      switches,
+      flows,
+      links,
+      length-append (lines_text host_words w.hosts) (lines_text switch_words w.switches ++ (lines_text (flow_words w.hosts w.switches) w.flows ++ flat_map link_text w.hosts)),
+      length-append (lines_text switch_words w.switches) (lines_text (flow_words w.hosts w.switches) w.flows ++ flat_map link_text w.hosts),
+      length-append (lines_text (flow_words w.hosts w.switches) w.flows) (flat_map link_text w.hosts),
+    )
 
--- What is left behind the outer lines, the declarations, and the steps and the asks.
-pub text_leaves : (w : Scenario) (outer room : ℕ) (o : Option ℕ) → outer ≡ outer_size w.shape w.pick → outer ≤ 16777216 → room + declared_size w.hosts w.switches w.flows ≡ 16777216 - outer → Leaves room (happening_size w.switches w.flows w.steps w.asks) o → Leaves 16777216 (length (text_of w)) o
-text_leaves w outer room (Some left) is few declared happening = omega (arith, text_len w, is, few, declared, happening)
-text_leaves w outer room None is few declared happening = omega (arith, text_len w, is, few, declared, happening)
+happening_size_is : (w : Scenario) → length (happening_text w) ≡ happening_size w.switches w.flows w.steps w.asks + 5
+happening_size_is w =
+    let all = pieces_size (λ t. line_text (step_words w.flows w.switches t)) (λ t. size (step_words w.flows w.switches t)) w.steps (step_size w.flows w.switches) in
+    let asks = pieces_size (λ q. line_text (ask_words w.flows q)) (λ q. size (ask_words w.flows q)) w.asks (λ q. line_size (ask_words w.flows q) (omega arith)) in
+    omega (arith, all, asks, length-append (lines_text (step_words w.flows w.switches) w.steps) (lines_text (ask_words w.flows) w.asks ++ line_text done_words), length-append (lines_text (ask_words w.flows) w.asks) (line_text done_words))
+
+-- The text has the bytes of its lines.
+pub text_size : (w : Scenario) → length (text_of w) ≡ frame_size Done w.shape w.pick + (declared_size w.hosts w.switches w.flows + happening_size w.switches w.flows w.steps w.asks)
+text_size w = omega (arith, length-append (first_text w) (declared_text w ++ happening_text w), length-append (declared_text w) (happening_text w), first_size w, declared_size_is w, happening_size_is w)
+
+-- The declarations take more than the frame leaves.
+pub over_text : (w : Scenario) (frame : ℕ) → frame ≡ frame_size Done w.shape w.pick → frame ≤ 16777216 → 16777216 - frame < declared_size w.hosts w.switches w.flows → 16777216 < length (text_of w)
+over_text w frame is few over = omega (arith, text_size w, is, few, over)
+
+-- What is left behind the frame, the declarations, and the steps and the asks.
+pub text_leaves : (w : Scenario) (frame room : ℕ) (o : Option ℕ) → frame ≡ frame_size Done w.shape w.pick → frame ≤ 16777216 → room + declared_size w.hosts w.switches w.flows ≡ 16777216 - frame → Leaves room (happening_size w.switches w.flows w.steps w.asks) o → Leaves 16777216 (length (text_of w)) o
+text_leaves w frame room (Some left) is few declared happening = omega (arith, text_size w, is, few, declared, happening)
+text_leaves w frame room None is few declared happening = omega (arith, text_size w, is, few, declared, happening)

@@ -2,3 +2,4 @@ pub mod EachLemmas
 pub mod ApartLemmas
 pub mod CountLemmas
 pub mod LengthLemmas
+pub mod WholeLemmas

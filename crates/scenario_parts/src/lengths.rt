@@ -5,7 +5,7 @@ ghost use Rattle.flow_key.specs.KeyText.{dotted};
 ghost use Rattle.lg_model.specs.Scenario.{IsFlow, IsStep, IsAsk};
 ghost use Rattle.scenario_lines.specs.Readable.{IsHostLine};
 ghost use Rattle.scenario_lines.specs.Spelling.{size, key_parts, hash_words, pick_words, burst_words, fate_words, shape_words, pick_line_words, host_words, switch_words, path_words, flow_words, step_words, ask_words};
-ghost use Rattle.scenario_parts.specs.Printed.{link_text};
+ghost use Rattle.scenario_lines.specs.Weight.{link_size};
 
 use flow_key::FlowKey;
 use lg_model::{Ask, Fate, Flow, Hash, HostLine, Pick, Step};
@@ -115,7 +115,7 @@ pub(crate) fn flow_len(hosts: &[HostLine], switches: &[u16], flow: &Flow) -> usi
 // The line of a host's letters; nothing where it has none.
 pub(crate) fn link_len(host: &HostLine) -> usize
     requires { IsHostLine host.now }
-    ensures value { result ≡ length (link_text host.now) }
+    ensures value { result ≡ link_size host.now }
 {
     let letters = host.letters.items().len();
     if letters == 0 {

@@ -26,6 +26,7 @@ fn are_named(hosts: &[HostLine], switches: &[u16], flows: &[Flow]) -> bool
     are_hosts_apart(hosts) && are_apart(switches) && are_flows_apart(flows)
 }
 
+// Whether the hosts, the switches and the flows fit each other and keep their limits.
 pub(crate) fn are_declared(hosts: &[HostLine], switches: &[u16], flows: &[Flow]) -> bool
     requires hosts { All (λ h. h.name < 65536) hosts.now }
     requires flows { All IsFlowRange flows.now }
@@ -34,7 +35,7 @@ pub(crate) fn are_declared(hosts: &[HostLine], switches: &[u16], flows: &[Flow])
     declarations_fit(hosts, switches, flows) && are_named(hosts, switches, flows)
 }
 
-pub(crate) fn are_steps(switches: &[u16], flows: &[Flow], steps: &[Step]) -> bool
+fn are_steps(switches: &[u16], flows: &[Flow], steps: &[Step]) -> bool
     requires ranges { All IsStepRange steps.now }
     requires few { length switches.now ≤ 64 }
     ensures { Decides result (AreSteps switches.now flows.now steps.now) }
@@ -48,9 +49,19 @@ pub(crate) fn are_steps(switches: &[u16], flows: &[Flow], steps: &[Step]) -> boo
     are_few_ends(switches, steps)
 }
 
-pub(crate) fn are_asks(switches: &[u16], flows: &[Flow], asks: &[Ask]) -> bool
+fn are_asks(switches: &[u16], flows: &[Flow], asks: &[Ask]) -> bool
     requires { All IsAskRange asks.now }
     ensures { Decides result (AreAsks switches.now flows.now asks.now) }
 {
     asks.len() <= 10_000 && asks_fit(switches, flows, asks)
+}
+
+// Whether the steps and the asks fit what is declared and keep their limits.
+pub(crate) fn are_happening(switches: &[u16], flows: &[Flow], steps: &[Step], asks: &[Ask]) -> bool
+    requires steps { All IsStepRange steps.now }
+    requires asks { All IsAskRange asks.now }
+    requires few { length switches.now ≤ 64 }
+    ensures { Decides result (AreSteps switches.now flows.now steps.now × AreAsks switches.now flows.now asks.now) }
+{
+    are_steps(switches, flows, steps) && are_asks(switches, flows, asks)
 }

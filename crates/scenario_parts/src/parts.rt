@@ -1,15 +1,17 @@
 //! The parts of a scenario together.
 ghost use Rattle.std.specs.Prelude.{◌≡◌, ◌≤◌, All, length, Decides};
 ghost use Rattle.lg_model.specs.Scenario.{IsFlow, IsStep, IsAsk};
+ghost use Rattle.scenario_lines.specs.declared.section.Section.TheVariants.{Done};
 ghost use Rattle.scenario_lines.specs.Readable.{IsHostLine};
-ghost use Rattle.scenario_parts.specs.Lengths.{Leaves, outer_size, declared_size, happening_size};
+ghost use Rattle.scenario_lines.specs.Weight.{frame_size, declared_size, happening_size};
+ghost use Rattle.scenario_parts.specs.Lengths.{Leaves};
 ghost use Rattle.scenario_parts.specs.Lists.{AreDeclared, AreNamed, AreSteps, AreAsks};
 ghost use Rattle.scenario_parts.specs.Parts.{AreRanges};
 ghost use Rattle.scenario_parts.specs.Printed.{text_of};
 ghost use Rattle.scenario_parts.specs.Whole.{IsWhole};
 
 use crate::lengths::{pick_len, shape_len};
-use crate::lists::{are_asks, are_declared, are_steps};
+use crate::lists::{are_declared, are_happening};
 use crate::ranges::{
     ask_ranges, flow_ranges, hash_range, host_ranges, pick_range, step_ranges, switch_ranges,
 };
@@ -69,24 +71,17 @@ impl Parts {
         are_declared(&self.hosts, &self.switches, &self.flows)
     }
 
-    fn has_steps(&self) -> bool
+    fn is_happening(&self) -> bool
         requires ranges { AreRanges self.now }
         requires few { length self.now.switches ≤ 64 }
-        ensures { Decides result (AreSteps self.now.switches self.now.flows self.now.steps) }
+        ensures { Decides result (AreSteps self.now.switches self.now.flows self.now.steps × AreAsks self.now.switches self.now.flows self.now.asks) }
     {
-        are_steps(&self.switches, &self.flows, &self.steps)
+        are_happening(&self.switches, &self.flows, &self.steps, &self.asks)
     }
 
-    fn has_asks(&self) -> bool
-        requires { AreRanges self.now }
-        ensures { Decides result (AreAsks self.now.switches self.now.flows self.now.asks) }
-    {
-        are_asks(&self.switches, &self.flows, &self.asks)
-    }
-
-    // The bytes of the three first lines and the last.
-    fn outer_len(&self) -> usize
-        ensures value { result ≡ outer_size self.now.shape self.now.pick }
+    // The bytes of the three first lines and of the last.
+    fn frame_len(&self) -> usize
+        ensures value { result ≡ frame_size Done self.now.shape self.now.pick }
         ensures bound { result ≤ 124 }
     {
         16 + shape_len(self.shape) + pick_len(self.pick)
@@ -117,7 +112,7 @@ impl Parts {
         requires asks { All (IsAsk self.now.flows) self.now.asks }
         ensures { Leaves 16777216 (length (text_of self.now)) result }
     {
-        let room = self.without_declared(MOST_BYTES - self.outer_len())?;
+        let room = self.without_declared(MOST_BYTES - self.frame_len())?;
         self.without_happening(room)
     }
 
@@ -132,6 +127,12 @@ impl Parts {
         ensures whole { Decides result (IsWhole self.now) }
     {
         self.ranges();
-        self.is_declared() && self.has_steps() && self.has_asks() && self.room_left().is_some()
+        if !self.is_declared() {
+            return false;
+        }
+        if !self.is_happening() {
+            return false;
+        }
+        self.room_left().is_some()
     }
 }

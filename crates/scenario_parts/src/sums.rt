@@ -1,9 +1,10 @@
 //! What is left of the bytes of a text when the lines of some parts are taken away; nothing where they are too long.
-ghost use Rattle.std.specs.Prelude.{◌≤◌, All, length};
+ghost use Rattle.std.specs.Prelude.{◌≤◌, All, length, sum_by};
 ghost use Rattle.lg_model.specs.Scenario.{IsFlow, IsStep, IsAsk};
 ghost use Rattle.scenario_lines.specs.Readable.{IsHostLine};
 ghost use Rattle.scenario_lines.specs.Spelling.{host_words, switch_words, flow_words, step_words, ask_words};
-ghost use Rattle.scenario_parts.specs.Lengths.{Leaves, lines_size, links_size, declared_size, happening_size};
+ghost use Rattle.scenario_lines.specs.Weight.{link_size, declared_size, happening_size};
+ghost use Rattle.scenario_parts.specs.Lengths.{Leaves, lines_size};
 
 use crate::lengths::{ask_len, flow_len, host_len, link_len, step_len, switch_len};
 use lg_model::{Ask, Flow, HostLine, Step};
@@ -46,7 +47,7 @@ pub(crate) fn without_flows(
 
 pub(crate) fn without_links(room: usize, hosts: &[HostLine]) -> Option<usize>
     requires { All IsHostLine hosts.now }
-    ensures { Leaves room (links_size hosts.now) result }
+    ensures { Leaves room (sum_by link_size hosts.now) result }
 {
     let mut left = room;
     for host in hosts {
