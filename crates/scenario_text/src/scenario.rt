@@ -1,13 +1,17 @@
 //! Scenarios.
-ghost use Rattle.std.specs.Prelude.{◌≡◌, ◌≤◌, length};
+ghost use Rattle.std.specs.Prelude.{◌≡◌, ◌≤◌, length, IfSome, IfNone, Ok};
 ghost use Rattle.lg_model.specs.Scenario as model;
+ghost use Rattle.scenario_parts.specs.Parts.{ArePlaces};
 ghost use Rattle.scenario_parts.specs.Printed.{text_of};
 ghost use Rattle.scenario_parts.specs.Whole.{IsWhole};
+ghost use Rattle.scenario_text.specs.Text.{reading};
+ghost use Rattle.scenario_text.specs.New.{parts_of, IsUnsaid};
 ghost use Rattle.scenario_lines.specs.Draft.{view, scenario_of, Fits};
 
 use lg_model::{Ask, Flow, HostLine, Pick, Step};
 use row_hash::Shape;
 use scenario_lines::Draft;
+use scenario_parts::Parts;
 use std::marker::Model;
 
 /// A scenario (docs/FORMATS.md, Scenario text): a shape, a pick, and lists of hosts, switches, flows, steps and asks.
@@ -37,6 +41,55 @@ impl Model for Scenario {
 }
 
 impl Scenario {
+    /// The scenario of these parts. It takes no memory.
+    ///
+    /// None exactly where a position in the parts is out of range, or the text that [`print`](crate::print) would write
+    /// of them is no scenario text; it may be too long to be one. The parts are let go then.
+    pub fn new(
+        shape: Shape,
+        pick: Pick,
+        hosts: Vec<HostLine>,
+        switches: Vec<u16>,
+        flows: Vec<Flow>,
+        steps: Vec<Step>,
+        asks: Vec<Ask>,
+    ) -> Option<Scenario>
+        ensures some { IfSome result (λ s. s ≡ parts_of shape pick hosts.items switches.items flows.items steps.items asks.items) }
+        ensures said { IfSome result (λ s. ArePlaces s × (reading (text_of s) ≡ Ok s)) }
+        ensures none { IfNone result (IsUnsaid (parts_of shape pick hosts.items switches.items flows.items steps.items asks.items)) }
+    {
+        let parts = Parts {
+            shape,
+            pick,
+            hosts,
+            switches,
+            flows,
+            steps,
+            asks,
+        };
+        if !parts.is_whole() {
+            return None;
+        }
+        let Parts {
+            shape,
+            pick,
+            hosts,
+            switches,
+            flows,
+            steps,
+            asks,
+        } = parts;
+        Some(Scenario {
+            shape,
+            pick,
+            hosts,
+            switches,
+            flows,
+            steps,
+            asks,
+        })
+    }
+
     // The scenario of what the lines of a text have said.
     pub(crate) fn of(draft: Draft) -> Scenario
         requires fits { Fits draft }
