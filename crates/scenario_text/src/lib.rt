@@ -11,6 +11,8 @@
 mod fault;
 mod laws;
 #[cfg(test)]
+mod new_tests;
+#[cfg(test)]
 mod print_tests;
 mod printing;
 mod put;

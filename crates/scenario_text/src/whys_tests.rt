@@ -184,3 +184,86 @@ fn limits(rt: HostRuntime) -> Result<(), Fail> {
     }
     Ok(())
 }
+
+// The head of a text, so many lines of a declaration with the names from 0 on, and one more.
+fn declared(
+    rt: &impl Abort,
+    alloc: Global,
+    names: u32,
+    word: &str,
+    rest: &str,
+    more: &str,
+) -> Result<Option<ScenarioFault>, Fail> {
+    let mut text = b"guardian 1\nshape 1 1 ports\npick turns\nhost 65535\nswitch 65535\n".to_vec(
+        alloc,
+    )?;
+    for name in 0..names {
+        text.extend_from_slice(word.as_bytes())?;
+        text.extend_from_slice(name.to_string(alloc)?.as_bytes())?;
+        text.extend_from_slice(rest.as_bytes())?;
+    }
+    text.extend_from_slice(more.as_bytes())?;
+    fault(rt, alloc, &text)
+}
+
+#[test]
+fn limits_of_declarations(rt: HostRuntime) -> Result<(), Fail> {
+    let alloc = rt.alloc();
+    for (names, more, want) in [
+        (62, "host 63\ndone\n", None),
+        (63, "host 64\ndone\n", bad(69, Why::TooMany)),
+        (63, "host 0\ndone\n", bad(69, Why::Repeated)),
+        (63, "host 64 1\ndone\n", bad(69, Why::WordCount)),
+        (63, "switch 64\ndone\n", None),
+    ] {
+        assert_eq!(rt;
+            declared(&rt, alloc, names, "host ", "\n", more)?,
+            want,
+            "{more}"
+        );
+    }
+    for (names, more, want) in [
+        (62, "switch 63\ndone\n", None),
+        (63, "switch 64\ndone\n", bad(69, Why::TooMany)),
+        (63, "switch 0\ndone\n", bad(69, Why::Repeated)),
+        (63, "switch x\ndone\n", bad(69, Why::BadNumber)),
+        (63, "host 64\ndone\n", None),
+    ] {
+        assert_eq!(rt;
+            declared(&rt, alloc, names, "switch ", "\n", more)?,
+            want,
+            "{more}"
+        );
+    }
+    let flow = " 1.2.3.4 5.6.7.8 6 2 1 host 65535 path 65535\n";
+    for (names, more, want) in [
+        (
+            4095,
+            "flow 4095 1.2.3.4 5.6.7.8 6 2 1 host 65535 path 65535\ndone\n",
+            None,
+        ),
+        (
+            4096,
+            "flow 4096 1.2.3.4 5.6.7.8 6 2 1 host 65535 path 65535\ndone\n",
+            bad(4102, Why::TooMany),
+        ),
+        (
+            4096,
+            "flow 4096 1.2.3.4 5.6.7.8 6 2 1 host 65535 path 65535 65535\ndone\n",
+            bad(4102, Why::Repeated),
+        ),
+        (
+            4096,
+            "flow 4095 1.2.3.4 5.6.7.8 6 2 1 host 65535 path 65535\ndone\n",
+            bad(4102, Why::Repeated),
+        ),
+        (4096, "packet 4095 1 1\nask 4095 65535 0\ndone\n", None),
+    ] {
+        assert_eq!(rt;
+            declared(&rt, alloc, names, "flow ", flow, more)?,
+            want,
+            "{more}"
+        );
+    }
+    Ok(())
+}
