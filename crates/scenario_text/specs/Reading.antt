@@ -1,5 +1,5 @@
 -- A reader in the midst of a text.
-use Rattle.std.specs.Prelude.{◌≡◌, ℕ, ◌+◌, ◌≤◌, ◌-◌, ◌==◌, Bool, true, false, List, ◌++◌, length, take, drop, All, Option, Some, Result, Ok, Err, nat_le}
+use Rattle.std.specs.Prelude.{◌≡◌, ℕ, ◌+◌, ◌≤◌, ◌-◌, ◌==◌, Bool, true, false, List, ◌++◌, length, take, drop, slice_index, ◌<◌, All, Option, Some, Result, Ok, Err, nat_le}
 use Rattle.flow_key.specs.Words.{words_at}
 use Rattle.lg_model.specs.Scenario.{Scenario}
 use Rattle.scenario_lines.specs.Draft.{view, scenario_of, Fits}
@@ -13,6 +13,12 @@ use Rattle.scenario_text.specs.Text.{Fault, most_bytes, lines_say, reading, deci
 -- A line without a byte 0A.
 abbrev pub IsUnbroken : List ℕ → Type 0
 IsUnbroken line = All (λ b. (b == 10) ≡ false) line
+
+-- The first 0A of a piece stands behind n bytes.
+pub record EndsAt (n : ℕ) (piece : List ℕ) : Type 0 where
+  pub within : n < length piece
+  pub here : slice_index piece n ≡ 10
+  pub unbroken : IsUnbroken (take n piece)
 
 -- The pending line has no 0A, and the parts so far fit each other.
 pub record IsReader (r : Reader) : Type 0 where

@@ -1,14 +1,18 @@
 //! A text that comes in pieces.
-ghost use Rattle.std.specs.Prelude.{◌≡◌, ◌≢◌, ◌+◌, ◌<◌, ◌≤◌, ◌^◌, [], ◌∷◌, length, IfErr, OnOk, Err, true, false};
+ghost use Rattle.std.specs.Prelude.{◌≡◌, ◌≢◌, ◌+◌, ◌<◌, ◌≤◌, ◌^◌, ◌++◌, [], ◌∷◌, length, IfSome, IfNone, IfErr, OnOk, Err, true, false};
 ghost use Rattle.std.specs.Str.Lines.{strip_carriage_return};
 ghost use Rattle.scenario_lines.specs.Draft.{view, start, scenario_of, Fits};
+ghost use Rattle.scenario_lines.specs.Fields.{Leaves};
+ghost use Rattle.scenario_lines.specs.Line.{line_of};
+ghost use Rattle.scenario_lines.specs.Weight.{weight};
 ghost use Rattle.scenario_parts.specs.Printed.{text_of};
-ghost use Rattle.scenario_text.specs.declared.fault.ScenarioFault.TheVariants.{ReadFault};
+ghost use Rattle.scenario_text.specs.declared.fault.ScenarioFault.TheVariants.{ReadFault, Memory};
 ghost use Rattle.scenario_text.specs.Text.{Answers};
-ghost use Rattle.scenario_text.specs.Reading.{Fed, Spent, Holds, held, IsReader, from_here};
+ghost use Rattle.scenario_text.specs.Reading.{Fed, Spent, Holds, held, IsReader, IsUnbroken, EndsAt, from_here};
 
 use crate::fault::ScenarioFault;
 use crate::scenario::Scenario;
+use memchr::memchr;
 use scenario_lines::{Draft, LineFault, Why};
 use std::alloc::Global;
 
@@ -31,6 +35,14 @@ fn without_return(line: &[u8]) -> &[u8]
     }
 }
 
+// How many bytes of a piece stand before its first 0A; nothing where it has none.
+fn line_end(piece: &[u8]) -> Option<usize>
+    ensures some { IfSome result (λ n. EndsAt n piece.now) }
+    ensures none { IfNone result (IsUnbroken piece.now) }
+{
+    memchr(b'\n', piece)
+}
+
 impl Reader {
     pub(crate) fn new(alloc: Global) -> Reader
         ensures pending { result.pending.items ≡ [] }
@@ -45,17 +57,36 @@ impl Reader {
         }
     }
 
-    // The end of the pending line. `true` where it was the last one.
-    fn end_line(&mut self) -> Result<bool, ScenarioFault>
+    // The pending line with these last bytes of it, which are not copied where none are pending.
+    #[tactic(auto, using(crate::proofs::ReaderLemmas::unbroken_both))]
+    fn take_line(&mut self, front: &[u8]) -> Result<(), LineFault>
         requires reader { IsReader self.old }
+        requires unbroken { IsUnbroken front.now }
+        ensures leaves { Leaves result (view self.new.draft) (line_of (view self.old.draft) (strip_carriage_return (self.old.pending.items ++ front.now))) }
+        ensures reader { OnOk result (IsReader self.new) }
+        ensures weight { OnOk result (weight (view self.new.draft) ≤ weight (view self.old.draft) + (length self.old.pending.items + length front.now + 1)) }
+        ensures line { self.new.line ≡ self.old.line }
+    {
+        if self.pending.is_empty() {
+            self.draft.line(without_return(front))
+        } else {
+            self.pending.extend_from_slice(front)?;
+            self.draft.line(without_return(&self.pending))
+        }
+    }
+
+    // The end of the pending line behind these last bytes of it. `true` where it was the last one.
+    fn end_line(&mut self, front: &[u8]) -> Result<bool, ScenarioFault>
+        requires reader { IsReader self.old }
+        requires unbroken { IsUnbroken front.now }
         requires short { self.old.line + 1 < 2 ^ 32 }
-        ensures fed { Fed self.old (10 ∷ []) self.new result }
-        ensures spent { Spent self.old (10 ∷ []) self.new result }
-        ensures weight { Holds self.old 1 self.new result }
+        ensures fed { Fed self.old (front.now ++ 10 ∷ []) self.new result }
+        ensures spent { Spent self.old (front.now ++ 10 ∷ []) self.new result }
+        ensures weight { Holds self.old (length front.now + 1) self.new result }
         ensures reader { OnOk result (IsReader self.new) }
         ensures short { self.new.line ≤ self.old.line + 1 }
     {
-        match self.draft.line(without_return(&self.pending)) {
+        match self.take_line(front) {
             Err(LineFault::Memory) => return Err(ScenarioFault::Memory),
             Err(LineFault::Bad(why)) => {
                 return Err(ScenarioFault::Bad {
@@ -73,22 +104,19 @@ impl Reader {
         Ok(false)
     }
 
-    fn byte(&mut self, b: u8) -> Result<bool, ScenarioFault>
+    // Bytes of a line that doesn't end in them.
+    fn keep(&mut self, front: &[u8]) -> Result<(), ScenarioFault>
         requires reader { IsReader self.old }
-        requires short { self.old.line + 1 < 2 ^ 32 }
-        ensures fed { Fed self.old (b ∷ []) self.new result }
-        ensures spent { Spent self.old (b ∷ []) self.new result }
-        ensures weight { Holds self.old 1 self.new result }
+        requires unbroken { IsUnbroken front.now }
+        ensures kept { OnOk result (self.new.pending.items ≡ self.old.pending.items ++ front.now) }
         ensures reader { OnOk result (IsReader self.new) }
-        ensures short { self.new.line ≤ self.old.line + 1 }
+        ensures draft { self.new.draft ≡ self.old.draft }
+        ensures line { self.new.line ≡ self.old.line }
+        ensures memory { IfErr result (λ e. e ≡ Memory) }
     {
-        if b == 10 {
-            self.end_line()
-        } else {
-            match self.pending.push(b) {
-                Ok(()) => Ok(false),
-                Err(_) => Err(ScenarioFault::Memory),
-            }
+        match self.pending.extend_from_slice(front) {
+            Ok(()) => Ok(()),
+            Err(_) => Err(ScenarioFault::Memory),
         }
     }
 
@@ -102,14 +130,19 @@ impl Reader {
         ensures reader { OnOk result (IsReader self.new) }
         ensures short { self.new.line ≤ self.old.line + length piece.now }
     {
-        for b in piece {
-            match self.byte(*b) {
+        let mut from = 0;
+        while let Some(len) = line_end(&piece[from..]) {
+            match self.end_line(&piece[from..from + len]) {
                 Ok(false) => {}
                 Ok(true) => return Ok(true),
                 Err(e) => return Err(e),
             }
+            from += len + 1;
         }
-        Ok(false)
+        match self.keep(&piece[from..]) {
+            Ok(()) => Ok(false),
+            Err(e) => Err(e),
+        }
     }
 
     // The end of the input: an unfinished last line may be `done`.

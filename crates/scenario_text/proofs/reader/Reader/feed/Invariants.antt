@@ -1,14 +1,18 @@
-use Rattle.std.proofs.Common.{◌≤◌, ◌+◌}
+use Rattle.std.proofs.Common.{◌≤◌, ◌+◌, ◌-◌, length}
 use Rattle.scenario_text.specs.Reading.{IsReader, held}
 use Rattle.scenario_text.proofs.ReaderLemmas.{Same}
 use Rattle.scenario_text.proofs.SpentLemmas.{SameNeeds}
 use Rattle.scenario_text.proofs.reader.Reader.feed.Given as goal
 
-abbrev pub invariant-loop-b : goal.invariant-loop-b
-invariant-loop-b l = record {
-  same : Same l.fn.self l.piece l.self l.b-index;
-  needs : SameNeeds l.fn.self l.piece l.self l.b-index;
+abbrev pub invariant-loop-len : goal.invariant-loop-len
+invariant-loop-len l = record {
+  within : l.from ≤ length l.piece;
+  same : Same l.fn.self l.piece l.self l.from;
+  needs : SameNeeds l.fn.self l.piece l.self l.from;
   reader : IsReader l.self;
-  weight : held l.self ≤ held l.fn.self + l.b-index;
-  short : l.self.line ≤ l.fn.self.line + l.b-index;
+  weight : held l.self ≤ held l.fn.self + l.from;
+  short : l.self.line ≤ l.fn.self.line + l.from;
 }
+
+abbrev pub decreases-loop-len : goal.decreases-loop-len
+decreases-loop-len l = length l.piece - l.from
