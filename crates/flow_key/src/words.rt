@@ -52,8 +52,8 @@ pub fn is(word: &[u8], text: &[u8]) -> bool
     word == text
 }
 
-// The number that a word of digits writes. The front of `most` is all but its last digit: a number above the front gets
-// too great by any digit more, the front itself by one above the last, so the sum neither wraps nor needs a wider type.
+// The number from 0 to `most` that a word of digits writes. `front` is `most` without its last digit: a number below it
+// stays in range with any digit more, and the front itself with one up to `last`. So nothing wraps at the top of u64.
 fn value(word: &[u8], most: u64) -> Option<u64>
     ensures value { result ≡ (if list_all is_ascii_digit word.now then value_to most word.now else None) }
     ensures bound { IfSome result (λ n. n ≤ most) }
@@ -66,7 +66,7 @@ fn value(word: &[u8], most: u64) -> Option<u64>
             return None;
         }
         let digit = u64::from(*b - b'0');
-        if value > front || (value == front && digit > last) {
+        if value >= front && (value > front || digit > last) {
             return None;
         }
         value = value * 10 + digit;

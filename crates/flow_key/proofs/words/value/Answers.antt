@@ -5,8 +5,8 @@ use Rattle.std.proofs.lemmas.List.{take_all}
 use Rattle.flow_key.proofs.WordLemmas.{digit_here, value_more, digits_more, too_much, just}
 use Rattle.flow_key.proofs.words.value.Goals as goal
 
-pub returns-then-value-front-clause-value : goal.returns-then-value-front-clause-value
-returns-then-value-front-clause-value c =
+pub returns-then-digit-last-clause-value : goal.returns-then-digit-last-clause-value
+returns-then-digit-last-clause-value c =
     let here : is_ascii_digit (get_or c.args.word.now c.loop-b.b-index 0) ≡ true = cc in
     let more = value_more c.args.word.now c.loop-b.b-index c.loop-b-test.true here in
     let lt : c.args.most < digits_value 10 (take (c.loop-b.b-index + 1) c.args.word.now) = omega (arith, more) in
