@@ -1,5 +1,5 @@
 -- Cutting a text at a byte, and the value of digits.
-use Rattle.std.proofs.Common.{◌≡◌, ℕ, suc, ◌+◌, ◌-◌, ◌*◌, ◌<◌, ◌≤◌, Bool, true, false, cond, ltb, leb, List, [], ◌∷◌, length, get_or, take, drop, Some, None, refl, subst, arith, rules, lit≤}
+use Rattle.std.proofs.Common.{◌≡◌, ℕ, suc, ◌+◌, ◌-◌, ◌*◌, ◌<◌, ◌≤◌, Bool, true, false, cond, ltb, leb, List, [], ◌∷◌, length, get_or, take, drop, Option, Some, None, refl, subst, arith, rules, lit≤}
 use Rattle.std.specs.List.{slice_split, position, position_or_len, list_all}
 use Rattle.std.specs.Char.{is_ascii_digit}
 use Rattle.std.specs.Int.{IsInRange}
@@ -7,8 +7,9 @@ use Rattle.std.specs.Str.Parse.{digits_value}
 use Rattle.std.proofs.lemmas.Bool.{ltb-true, ltb-false, le-leb}
 use Rattle.std.proofs.lemmas.Option.{cond_some}
 use Rattle.std.proofs.lemmas.Str.{digit_value_digit}
-use Rattle.std.proofs.lemmas.Str.Parse.{IsNumeralModel, numerals_by_value, digit_at, digits_value-take-le}
+use Rattle.std.proofs.lemmas.Str.Parse.{IsNumeralModel, numerals_by_value, digits_value-take-le}
 use Rattle.std.proofs.lemmas.Int.Digits.{digits_value_more}
+use Rattle.std.proofs.lemmas.List.Folds.{list_all_more}
 use Rattle.std.proofs.lemmas.List.Splits.{slice_split_first, slice_split-cons_no}
 use Rattle.flow_key.specs.Words.{value_to}
 
@@ -39,25 +40,33 @@ split_none p xs h = past p xs (ltb-false _ _ (cond_none (ltb (position_or_len p 
 pub own : IsNumeralModel (λ ds. list_all is_ascii_digit ds ≡ true) (digits_value 10)
 own = numerals_by_value _ (search rules)
 
-pub digit_here : (ds : List ℕ) (i : ℕ) → list_all is_ascii_digit ds ≡ true → i < length ds → IsInRange 48 57 (get_or ds i 0)
-digit_here ds i all lt = digit_at ds i (own.to ds all) lt
+pub digit_here : (b : ℕ) → is_ascii_digit b ≡ true → IsInRange 48 57 b
+digit_here b e = grind arith
 
 -- the value of one more digit
-pub value_more : (ds : List ℕ) (i : ℕ) → list_all is_ascii_digit ds ≡ true → i < length ds → digits_value 10 (take (i + 1) ds) ≡ digits_value 10 (take i ds) * 10 + (get_or ds i 0 - 48)
-value_more ds i all lt =
-    let d = digit_here ds i all lt in
+pub value_more : (ds : List ℕ) (i : ℕ) → i < length ds → is_ascii_digit (get_or ds i 0) ≡ true → digits_value 10 (take (i + 1) ds) ≡ digits_value 10 (take i ds) * 10 + (get_or ds i 0 - 48)
+value_more ds i lt here =
+    let d = digit_here (get_or ds i 0) here in
     omega (arith, digits_value_more 10 ds i lt, digit_value_digit (get_or ds i 0) d, d.0)
 
--- digits whose front is worth more than most write no number of at most most
-pub too_much : (most : ℕ) (ds : List ℕ) (i : ℕ) → most < digits_value 10 (take i ds) → value_to most ds ≡ None
+-- one more digit
+pub digits_more : (ds : List ℕ) (i : ℕ) → i < length ds → list_all is_ascii_digit (take i ds) ≡ true → is_ascii_digit (get_or ds i 0) ≡ true → list_all is_ascii_digit (take (i + 1) ds) ≡ true
+digits_more ds i lt before here = rw (list_all_more is_ascii_digit ds i 0 lt, before) here
+
+-- a word whose front is worth more than most, if it is of digits, writes no number of at most most
+pub too_much : (most : ℕ) (ds : List ℕ) (i : ℕ) → most < digits_value 10 (take i ds) → None ≡ cond (list_all is_ascii_digit ds) (value_to most ds) None
 unfolding value_to
 too_much most ds i more =
     let le : digits_value 10 (take i ds) ≤ digits_value 10 ds = digits_value-take-le 10 ds i (lit≤ tt) in
     let no : leb (digits_value 10 ds) most ≡ false = grind arith in
-    rw no refl
+    rw no (nothing (list_all is_ascii_digit ds))
+  where
+    nothing : (b : Bool) → ◌≡◌ {A = Option ℕ} None (cond b None None)
+    nothing true = refl
+    nothing false = refl
 
-pub just : (most : ℕ) (ds : List ℕ) (n : ℕ) → n ≡ digits_value 10 ds → n ≤ most → value_to most ds ≡ Some n
+pub just : (most : ℕ) (ds : List ℕ) (n : ℕ) → list_all is_ascii_digit ds ≡ true → n ≡ digits_value 10 ds → n ≤ most → Some n ≡ cond (list_all is_ascii_digit ds) (value_to most ds) None
 unfolding value_to
-just most ds n is le =
+just most ds n all is le =
     let yes : leb (digits_value 10 ds) most ≡ true = le-leb _ _ (omega arith) in
-    rw (yes, is) refl
+    rw (all, yes, is) refl

@@ -1,12 +1,12 @@
 //! Words of a text, and the numbers and addresses that they write.
 
-ghost use Rattle.std.specs.Prelude.{◌≡◌, ◌==◌, ◌∷◌, ◌<◌, ◌^◌, ◌≤◌, IsTrue, IfSome, Some, true, ℕ, List};
+ghost use Rattle.std.specs.Prelude.{◌≡◌, ◌==◌, ◌∷◌, ◌<◌, ◌^◌, ◌≤◌, IfSome, None, Some, true, ℕ, List, if◌then◌else◌};
 ghost use Rattle.std.specs.List.{position, list_all};
 ghost use Rattle.std.specs.Char.{is_ascii_digit};
 ghost use Rattle.std.specs.Fmt.{decimal};
 ghost use Rattle.std.specs.Option.{option_copied, option_map};
 ghost use Rattle.std.specs.Str.{bytes_eq};
-ghost use Rattle.flow_key.specs.Words.{words_at, words_left, is_number, value_to, number_to};
+ghost use Rattle.flow_key.specs.Words.{words_at, words_left, value_to, number_to};
 ghost use Rattle.flow_key.specs.KeyText.{number_word, no_more, address_of, dotted, IsAddress};
 
 fn find(text: &[u8], at: u8) -> Option<usize>
@@ -52,52 +52,41 @@ pub fn is(word: &[u8], text: &[u8]) -> bool
     word == text
 }
 
-fn all_digits(word: &[u8]) -> bool
-    ensures { result ≡ list_all is_ascii_digit word.now }
-{
-    word.iter().all(|b| b.is_ascii_digit())
-}
-
-#[tactic(auto, unfolding(crate::specs::Words::is_number))]
-fn has_form(word: &[u8]) -> bool
-    ensures form { result ≡ is_number word.now }
-    ensures digits { IsTrue result → IsTrue (list_all is_ascii_digit word.now) }
-{
-    if word.is_empty() {
-        return false;
-    }
-    if word[0] == b'0' && word.len() > 1 {
-        return false;
-    }
-    all_digits(word)
-}
-
+// The number from 0 to `most` that a word of digits writes. `front` is `most` without its last digit: a number below it
+// stays in range with any digit more, and the front itself with one up to `last`. So nothing wraps at the top of u64.
 fn value(word: &[u8], most: u64) -> Option<u64>
-    requires { IsTrue (list_all is_ascii_digit word.now) }
-    ensures value { result ≡ value_to most word.now }
+    ensures value { result ≡ (if list_all is_ascii_digit word.now then value_to most word.now else None) }
     ensures bound { IfSome result (λ n. n ≤ most) }
 {
+    let front = most / 10;
+    let last = most % 10;
     let mut value: u64 = 0;
     for b in word {
-        let next = value as u128 * 10 + (*b - b'0') as u128;
-        if next > most as u128 {
+        if !b.is_ascii_digit() {
             return None;
         }
-        value = next as u64;
+        let digit = u64::from(*b - b'0');
+        if value >= front && (value > front || digit > last) {
+            return None;
+        }
+        value = value * 10 + digit;
     }
     Some(value)
 }
 
-#[tactic(auto, unfolding(crate::specs::Words::number_to))]
+// The empty word and a zero in front of others are refused before the digits are read.
+#[tactic(auto, unfolding(crate::specs::Words::number_to, crate::specs::Words::is_number))]
 fn number_in(word: &[u8], most: u64) -> Option<u64>
     ensures value { result ≡ number_to most word.now }
     ensures bound { IfSome result (λ n. n ≤ most) }
 {
-    if has_form(word) {
-        value(word, most)
-    } else {
-        None
+    if word.is_empty() {
+        return None;
     }
+    if word[0] == b'0' && word.len() > 1 {
+        return None;
+    }
+    value(word, most)
 }
 
 /// The number from 0 to `most` that a word writes: decimal digits, one or more, with no zero in front of others.

@@ -141,25 +141,24 @@ pub(crate) fn letters_field(
     Ok((letters, rest))
 }
 
-// One delay for each hop, behind those so far. A path has at most 16 hops, so the calls are at most 17 deep.
-#[tactic(auto, using(crate::proofs::SizeLemmas::size_push), unfolding(crate::specs::Fields::delays))]
+// One delay for each hop of a path, in room that is taken for all of them at the start.
+#[tactic(auto, unfolding(crate::specs::Fields::delays))]
 pub(crate) fn delays_field<'a>(
+    alloc: Global,
     path: &[u16],
-    mut sofar: Vec<u32>,
     text: Option<&'a [u8]>,
 ) -> Result<(Vec<u32>, Option<&'a [u8]>), LineFault>
-    requires { All (λ d. d < 4294967296) sofar.items }
-    ensures taken { IfOk result (λ x. size (map decimal x.0.items) + size (words_left 32 (option_copied x.1)) ≡ size (map decimal sofar.items) + size (words_left 32 (option_copied text.entry))) }
-    ensures count { IfOk result (λ x. length x.0.items ≡ length sofar.items + length path.now) }
+    ensures taken { IfOk result (λ x. size (map decimal x.0.items) + size (words_left 32 (option_copied x.1)) ≡ size (words_left 32 (option_copied text.entry))) }
+    ensures count { IfOk result (λ x. length x.0.items ≡ length path.now) }
     ensures small { IfOk result (λ x. All (λ d. d < 4294967296) x.0.items) }
-    ensures gives { Gives (λ x. (x.0.items, words_left 32 (option_copied x.1))) result (delays path.now sofar.items (words_left 32 (option_copied text.entry))) }
+    ensures gives { Gives (λ x. (x.0.items, words_left 32 (option_copied x.1))) result (delays path.now [] (words_left 32 (option_copied text.entry))) }
 {
-    match path {
-        [] => Ok((sofar, text)),
-        [_, hops @ ..] => {
-            let (delay, text) = number_field(text, 0, 4294967295)?;
-            sofar.push(delay as u32)?;
-            delays_field(hops, sofar, text)
-        }
+    let mut delays: Vec<u32> = Vec::with_capacity(alloc, path.len())?;
+    let mut left = text;
+    for _ in path {
+        let (delay, rest) = number_field(left, 0, 4294967295)?;
+        delays.push_reserved(delay as u32);
+        left = rest;
     }
+    Ok((delays, left))
 }

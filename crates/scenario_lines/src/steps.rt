@@ -62,7 +62,7 @@ impl Draft {
         let size = size as u16;
         let path = self.path_of(flow_at);
         let hops = path.len();
-        let (delays, text) = delays_field(path, Vec::new(*self.steps.allocator()), text)?;
+        let (delays, text) = delays_field(*self.steps.allocator(), path, text)?;
         let (burst, text) = burst_field(text)?;
         let fate = fate_field(hops, text)?;
         let packets = self.packets + burst;

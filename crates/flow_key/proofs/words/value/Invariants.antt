@@ -1,6 +1,12 @@
-use Rattle.std.proofs.Common.{◌≡◌, ◌≤◌, take}
+use Rattle.std.proofs.Common.{◌≡◌, ◌≤◌, take, true}
+use Rattle.std.specs.List.{list_all}
+use Rattle.std.specs.Char.{is_ascii_digit}
 use Rattle.std.specs.Str.Parse.{digits_value}
 use Rattle.flow_key.proofs.words.value.Given as goal
 
 abbrev pub invariant-loop-b : goal.invariant-loop-b
-invariant-loop-b l = (l.value ≡ digits_value 10 (take l.b-index l.word)) × (l.value ≤ l.most)
+invariant-loop-b l = record {
+  digits : list_all is_ascii_digit (take l.b-index l.word) ≡ true;
+  is : l.value ≡ digits_value 10 (take l.b-index l.word);
+  bound : l.value ≤ l.most;
+}

@@ -11,10 +11,9 @@ use Rattle.scenario_lines.proofs.draft.Draft.packet.Goals as goal
 pub returns-clause-fits : goal.returns-clause-fits
 returns-clause-fits c =
     let delays = ap length c.new-delays.ensures ∙ c.in_ok-delays.ensures.count in
-    let none = ap length c.new.ensures.items in
     let path = ap length c.path_of-path.ensures.value in
     step_more (view c.args.self.now) c.push.new.self.items (Packet c.in_ok-flow_at.flow_at c.in_ok-size.size c.new-delays.result c.in_ok-burst.burst c.in_ok-fate.fate) c.requires.fits
-    (c.in_ok-flow_at.ensures.bound, omega (arith, delays, none, path), rw (← path) c.in_ok-fate.ensures.bound)
+    (c.in_ok-flow_at.ensures.bound, omega (arith, delays, path), rw (← path) c.in_ok-fate.ensures.bound)
     c.in_ok-push.ensures.items
     (omega (arith, c.in_ok-room_up_to.ensures.fits, c.args.self.now.counted))
     (λ i lt. omega (arith, c.requires.fits.scenario.few_ends i lt))
@@ -23,14 +22,12 @@ returns-clause-fits c =
 pub returns-clause-weight : goal.returns-clause-weight
 returns-clause-weight c =
     let delays = ap (λ (ds : List ℕ). size (map decimal ds)) c.new-delays.ensures in
-    let none = ap (λ (ds : List ℕ). size (map decimal ds)) c.new.ensures.items in
     let tail = size_append (map decimal c.new-delays.result) (burst_words c.in_ok-burst.burst ++ fate_words c.in_ok-fate.fate) in
     let end = size_append (burst_words c.in_ok-burst.burst) (fate_words c.in_ok-fate.fate) in
     omega (
       arith,
       step_weighs (view c.args.self.now) c.push.new.self.items (Packet c.in_ok-flow_at.flow_at c.in_ok-size.size c.new-delays.result c.in_ok-burst.burst c.in_ok-fate.fate) (open_packet c.args.self.now.section c.requires.place) c.in_ok-push.ensures.items,
       delays,
-      none,
       tail,
       end,
       ap (λ (n : ℕ). length (decimal n)) c.in_ok-flow_at.ensures.named,
