@@ -1,5 +1,5 @@
 -- Parts that may make a scenario: their numbers are in the ranges of their fields, and their positions in their lists.
-use Rattle.std.specs.Prelude.{ℕ, ◌<◌, ◌^◌, List, length, All}
+use Rattle.std.specs.Prelude.{ℕ, ◌<◌, length, All}
 use Rattle.flow_key.specs.KeyText.{Fits}
 use Rattle.lg_model.specs.declared.scenario.Fate.{Fate}
 use Rattle.lg_model.specs.declared.scenario.Fate.TheVariants as fates

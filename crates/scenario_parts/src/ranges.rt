@@ -2,7 +2,6 @@
 //! its loop is left when it is compiled.
 ghost use Rattle.std.specs.Prelude.{◌<◌, All};
 ghost use Rattle.flow_key.specs.KeyText.{Fits};
-ghost use Rattle.lg_model.specs.Placing.{IsShape};
 ghost use Rattle.scenario_lines.specs.Readable.{IsHash, IsPick};
 ghost use Rattle.scenario_parts.specs.Parts.{IsFlowRange, IsFateRange, IsStepRange, IsAskRange};
 

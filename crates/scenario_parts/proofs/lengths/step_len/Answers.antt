@@ -1,8 +1,6 @@
-use Rattle.std.proofs.Common.{arith, ap, ◌∙◌}
-use Rattle.std.specs.Fmt.{decimal}
+use Rattle.std.proofs.Common.{arith}
 use Rattle.std.proofs.lemmas.List.{get_or-map}
 use Rattle.lg_model.specs.declared.scenario.Flow.{Flow}
-use Rattle.scenario_lines.specs.Spelling.{step_words, size}
 use Rattle.scenario_parts.proofs.LengthLemmas.{tail_size}
 use Rattle.scenario_parts.proofs.lengths.step_len.Goals as goal
 

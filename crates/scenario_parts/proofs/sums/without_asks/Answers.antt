@@ -1,5 +1,4 @@
 use Rattle.scenario_lines.specs.Spelling.{size, ask_words}
-use Rattle.std.proofs.Common.{◌≤◌, ap}
 use Rattle.scenario_parts.proofs.LengthLemmas.{ran_out}
 use Rattle.scenario_parts.proofs.sums.without_asks.Goals as goal
 

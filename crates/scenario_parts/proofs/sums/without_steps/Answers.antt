@@ -1,4 +1,3 @@
-use Rattle.std.proofs.Common.{◌≤◌}
 use Rattle.lg_model.specs.declared.scenario.Step.{Step}
 use Rattle.scenario_lines.specs.Spelling.{size, step_words}
 use Rattle.scenario_parts.proofs.LengthLemmas.{ran_out_item}
