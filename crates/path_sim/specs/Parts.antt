@@ -1,7 +1,9 @@
 -- What the network handles, as the definitions speak of it.
 use Rattle.std.specs.Prelude.{◌≡◌, ℕ, ◌<◌, List, ◌++◌, map, take, slice_index, slice_index_or, Option, None, Some}
+use Rattle.lg_model.specs.declared.scenario.Flow.{Flow}
 use Rattle.lg_model.specs.declared.scenario.Step.{Step}
 use Rattle.lg_model.specs.declared.scenario.Step.TheVariants as steps
+use Rattle.lg_model.specs.Placing.{Shape, places_of}
 use Rattle.lg_model.specs.Scenario.{Scenario}
 use Rattle.lg_model.specs.Matching.{MatchedOption}
 use Rattle.lg_model.specs.Trace.{Meeting, meetings_in, meetings_of}
@@ -46,6 +48,14 @@ IsBefore n c = c.packet < n
 -- An entry has the name of its switch.
 abbrev pub IsNamed : Scenario → Carry → Type 0
 IsNamed w c = c.switch ≡ slice_index w.switches c.switch_at
+
+-- The places of a flow in the rows of a shape.
+abbrev pub places_in : Shape → Flow → List ℕ
+places_in q f = places_of q f.key
+
+-- The places of each flow, in the order of declaration.
+abbrev pub flow_places : Scenario → List (List ℕ)
+flow_places w = map (places_in w.shape) w.flows
 
 -- The step at a place.
 abbrev pub step_in : Scenario → ℕ → Step

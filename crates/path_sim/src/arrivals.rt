@@ -5,18 +5,20 @@ ghost use Rattle.lg_model.specs.Carrying.{IsAllowed};
 ghost use Rattle.lg_model.specs.Asking.{IsPick, asking};
 ghost use Rattle.lg_model.specs.Runs.{Runs};
 ghost use Rattle.lg_model.specs.Twin.{Twin, AreTwins};
-ghost use Rattle.path_sim.specs.Parts.{carried_are, IsNamed};
+ghost use Rattle.path_sim.specs.Parts.{carried_are, flow_places, IsNamed};
 ghost use Rattle.path_sim.specs.Moving.{IsTraffic, HasEnded};
 ghost use Rattle.path_sim.specs.Arrived.{HaveArrived};
 
 use crate::carry::Carry;
 use crate::inbox::Inbox;
 use crate::mail::release;
+use crate::placing::places_of_flows;
 use crate::stepping::step_once;
 use crate::traffic::Traffic;
 use column_pick::Picker;
 use epoch_freeze::Twins;
 use lg_base::Memory;
+use row_hash::Places;
 use scenario_text::Scenario;
 use sketchlet_wire::Packed;
 use std::alloc::Global;
@@ -88,10 +90,12 @@ fn begin(alloc: Global, scenario: &Scenario) -> Result<Traffic, Memory>
 // All steps, one after the other.
 fn run_steps<P: Picker>(
     scenario: &Scenario,
+    places: &[Places],
     pickers: &mut [P],
     traffic: &mut Traffic,
 ) -> Result<(), Memory>
     requires pickers { length pickers.old ≡ length scenario.now.switches }
+    requires places { places.now ≡ flow_places scenario.now }
     requires carried { traffic.old.carried.items ≡ [] }
     requires traffic { IsTraffic scenario.now 0 0 traffic.old }
     ensures traffic { IfOk result (λ _. HasEnded scenario.now traffic.new) }
@@ -99,13 +103,14 @@ fn run_steps<P: Picker>(
 {
     let mut number = 0;
     for n in 0..scenario.steps().len() {
-        number = step_once(scenario, number, n, pickers, traffic)?;
+        number = step_once(scenario, places, number, n, pickers, traffic)?;
     }
     Ok(())
 }
 
 /// Runs the network of a scenario with one picker for each switch, in the order of declaration. Linear in packets times
-/// hops. Memory where there is none for the sketches, for what is carried or for what arrives.
+/// hops, and in flows. Memory where there is none for the sketches, for the places of the flows, for what is carried or
+/// for what arrives.
 pub fn run_net<P: Picker>(
     alloc: Global,
     scenario: &Scenario,
@@ -121,7 +126,8 @@ pub fn run_net<P: Picker>(
     ensures twins { IfOk result (λ a. AreTwins scenario.now (length scenario.now.steps) (meetings scenario.now) (carried_are a.carried) a.twins) }
 {
     let mut traffic = begin(alloc, scenario)?;
-    run_steps(scenario, pickers, &mut traffic)?;
+    let places = places_of_flows(alloc, scenario)?;
+    run_steps(scenario, &places, pickers, &mut traffic)?;
     let Traffic {
         twins,
         carried,

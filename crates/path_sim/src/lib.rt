@@ -15,6 +15,7 @@ mod mail;
 mod meeting;
 mod own;
 mod packed;
+mod placing;
 mod sending;
 mod stepping;
 #[cfg(test)]

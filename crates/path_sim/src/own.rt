@@ -27,7 +27,7 @@ fn own_pickers(alloc: Global, scenario: &Scenario) -> Result<Vec<AnyPicker>, Mem
 }
 
 /// Runs the network of a scenario with the pickers that it names. Memory where there is none for the pickers, the
-/// sketches, for what is carried or for what arrives.
+/// sketches, for the places of the flows, for what is carried or for what arrives.
 pub fn run_own(alloc: Global, scenario: &Scenario) -> Result<Arrivals, Memory>
     ensures picked { IfOk result (λ a. carried_are a.carried ≡ picked scenario.now) }
     ensures allowed { IfOk result (λ a. IsAllowed scenario.now (picked scenario.now)) }

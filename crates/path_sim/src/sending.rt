@@ -19,7 +19,7 @@ use column_pick::Picker;
 use epoch_freeze::Twins;
 use lg_base::Memory;
 use lg_model::{Delays, Fate, Flow};
-use row_hash::{Places, places};
+use row_hash::Places;
 use scenario_text::Scenario;
 use sketchlet_wire::Packed;
 
@@ -139,6 +139,7 @@ pub fn send_all<P: Picker>(
     scenario: &Scenario,
     number: u32,
     sent: &Sent,
+    places: &Places,
     count: u32,
     pickers: &mut [P],
     traffic: &mut Traffic,
@@ -150,15 +151,15 @@ pub fn send_all<P: Picker>(
     requires first { length (packets_until scenario.now sent.now.step_at) ≤ number }
     requires fits { IsFit (length scenario.now.switches) sent.now }
     requires host { sent.now.flow.now.host_at < length scenario.now.hosts }
+    requires places { places.now ≡ places_of scenario.now.shape sent.now.flow.now.key }
     requires pickers { length pickers.old ≡ length scenario.now.switches }
     requires traffic { IsTraffic scenario.now sent.now.step_at number traffic.old }
     ensures traffic { IfOk result (λ _. IsTraffic scenario.now sent.now.step_at (number + count) traffic.new) }
     ensures picks { IfOk result (λ _. (start : _) → Runs (IsPick P.picks scenario.now) (meetings_in (packets_to scenario.now number)) start (asking pickers.old (carried_are traffic.old.carried.items))
         → Runs (IsPick P.picks scenario.now) (meetings_in (packets_to scenario.now (number + count))) start (asking pickers.new (carried_are traffic.new.carried.items))) }
 {
-    let places = places(&scenario.shape(), &sent.flow.key);
     for b in 0..count {
-        send_one(scenario, number + b, sent, &places, pickers, traffic)?;
+        send_one(scenario, number + b, sent, places, pickers, traffic)?;
     }
     Ok(())
 }

@@ -7,7 +7,7 @@ ghost use Rattle.lg_model.specs.Arriving.{packets_to};
 ghost use Rattle.lg_model.specs.Asking.{IsPick, asking};
 ghost use Rattle.lg_model.specs.Runs.{Runs};
 ghost use Rattle.lg_model.specs.Twin.{Twin, with_end};
-ghost use Rattle.path_sim.specs.Parts.{carried_are, step_in};
+ghost use Rattle.path_sim.specs.Parts.{carried_are, flow_places, step_in};
 ghost use Rattle.path_sim.specs.Moving.{IsTraffic};
 
 use crate::mail::release;
@@ -17,6 +17,7 @@ use column_pick::Picker;
 use epoch_freeze::Twins;
 use lg_base::Memory;
 use lg_model::{Delays, Fate, Step};
+use row_hash::Places;
 use scenario_text::Scenario;
 
 // A switch ends an epoch.
@@ -40,9 +41,11 @@ fn end_all(twins: &mut [Twins])
     }
 }
 
-// The packets of a step. `number` is the number of the first. Memory where there is none for what they carry or bring.
+// The packets of a step, at the places of their flow. `number` is the number of the first. Memory where there is none for
+// what they carry or bring.
 fn packet_step<P: Picker>(
     scenario: &Scenario,
+    places: &[Places],
     number: u32,
     step_at: usize,
     flow_at: u16,
@@ -56,6 +59,7 @@ fn packet_step<P: Picker>(
     requires inside { step_at < length scenario.now.steps }
     requires step { step_in scenario.now step_at ≡ steps.Packet flow_at size delays.now count fate }
     requires number { number ≡ length (packets_until scenario.now step_at) }
+    requires places { places.now ≡ flow_places scenario.now }
     requires pickers { length pickers.old ≡ length scenario.now.switches }
     requires traffic { IsTraffic scenario.now step_at number traffic.old }
     ensures number { number + count ≡ length (packets_until scenario.now (step_at + 1)) }
@@ -65,6 +69,7 @@ fn packet_step<P: Picker>(
         → Runs (IsPick P.picks scenario.now) (meetings_in (packets_to scenario.now (number + count))) start (asking pickers.new (carried_are traffic.new.carried.items))) }
 {
     let flow = &scenario.flows()[flow_at as usize];
+    let places = &places[flow_at as usize];
     let sent = Sent {
         step_at,
         flow,
@@ -73,7 +78,7 @@ fn packet_step<P: Picker>(
         fate,
         reached: hops_reached(flow.path.items().len(), fate),
     };
-    send_all(scenario, number, &sent, count, pickers, traffic)
+    send_all(scenario, number, &sent, places, count, pickers, traffic)
 }
 
 // How many hops a packet of that fate reaches, of at most 16.
@@ -87,10 +92,11 @@ fn hops_reached(hops: usize, fate: Fate) -> u8
     }
 }
 
-/// One step. The answer is how many packets were sent so far; `number` is how many were before. Memory where there is
-/// none for what packets carry or bring.
+/// One step. The answer is how many packets were sent so far; `number` is how many were before, and `places` has those of
+/// each flow. Memory where there is none for what packets carry or bring.
 pub fn step_once<P: Picker>(
     scenario: &Scenario,
+    places: &[Places],
     number: u32,
     step_at: usize,
     pickers: &mut [P],
@@ -98,6 +104,7 @@ pub fn step_once<P: Picker>(
 ) -> Result<u32, Memory>
     requires inside { step_at < length scenario.now.steps }
     requires number { number ≡ length (packets_until scenario.now step_at) }
+    requires places { places.now ≡ flow_places scenario.now }
     requires pickers { length pickers.old ≡ length scenario.now.switches }
     requires traffic { IsTraffic scenario.now step_at number traffic.old }
     ensures number { IfOk result (λ next. next ≡ length (packets_until scenario.now (step_at + 1))) }
@@ -114,7 +121,8 @@ pub fn step_once<P: Picker>(
             fate,
         } => {
             packet_step(
-                scenario, number, step_at, *flow_at, *size, delays, *burst, *fate, pickers, traffic,
+                scenario, places, number, step_at, *flow_at, *size, delays, *burst, *fate, pickers,
+                traffic,
             )?;
             Ok(number + *burst)
         }
