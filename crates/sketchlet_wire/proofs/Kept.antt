@@ -1,8 +1,8 @@
 -- How a column is kept and written, over plain lists.
-use Rattle.std.proofs.Common.{◌≡◌, ℕ, get_or, suc, ◌+◌, ◌-◌, ◌*◌, ◌^◌, ◌<◌, ◌≤◌, List, [], ◌∷◌, ◌++◌, length, take, drop, slice_set, refl, sym, ap, ◌∙◌, append_assoc, zero, subst, arith}
+use Rattle.std.proofs.Common.{◌≡◌, ℕ, get_or, suc, ◌+◌, ◌-◌, ◌*◌, ◌^◌, ◌<◌, ◌≤◌, List, [], ◌∷◌, ◌++◌, length, take, drop, replicate, slice_set, refl, sym, ap, ◌∙◌, append_assoc, zero, arith}
 use Rattle.std.proofs.Math.Numerals.{add-one}
 use Rattle.std.specs.List.{flat_map}
-use Rattle.std.proofs.lemmas.List.{take_at, drop_at, length-append, length-take, length-drop, drop-drop, set_at, append-nil, nil_from_length}
+use Rattle.std.proofs.lemmas.List.{take_at, drop_at, length-append, length-take, length-drop, drop-drop, drop-replicate, set_at, append-nil, nil_from_length}
 use Rattle.std.proofs.lemmas.List.{take_all, take_more}
 use Rattle.std.proofs.lemmas.List.Concat.{flat_map-append, flat_map-cons}
 use borrow.Rule.Slice.PartMut.{put_mid, mid_of}
@@ -10,7 +10,7 @@ use Rattle.lg_model.specs.declared.column.Bucket.{Bucket}
 use Rattle.lg_model.specs.declared.column.Key.{Key}
 use Rattle.lg_model.specs.declared.column.Dims.{Dims}
 use Rattle.lg_model.specs.Sketch.{zero_bucket}
-use Rattle.sketchlet_wire.specs.Spelling.{IsAdmitted, IsColumn, IsKept, FitBuckets, shown, zeros, bucket_bytes}
+use Rattle.sketchlet_wire.specs.Spelling.{IsAdmitted, IsKept, FitBuckets, zeros, bucket_bytes}
 use Rattle.sketchlet_wire.specs.Reading.{bucket_from, buckets_from}
 use Rattle.sketchlet_wire.proofs.Fields.{fit_front, bucket_len, buckets_len, buckets_more, buckets_from_len}
 
@@ -25,29 +25,32 @@ sub_zeros (suc (suc (suc (suc (suc (suc zero)))))) lt = refl
 sub_zeros (suc (suc (suc (suc (suc (suc (suc zero))))))) lt = refl
 sub_zeros (suc (suc (suc (suc (suc (suc (suc (suc n)))))))) lt = absurd (omega arith)
 
-pub shown_kept : (key : Key) (dims : Dims) (buckets : List Bucket) → dims.rows ≤ length buckets → shown key dims (take dims.rows buckets ++ drop dims.rows zeros) ≡ shown key dims buckets
-shown_kept key dims buckets long =
-    let e : take dims.rows (take dims.rows buckets ++ drop dims.rows zeros) ≡ take dims.rows buckets = take_at (take dims.rows buckets) (drop dims.rows zeros) dims.rows (omega (arith, length-take dims.rows buckets)) in
-    λ i. record { key = key; dims = dims; buckets = e i }
-
 pub is_kept : (key : Key) (dims : Dims) (buckets : List Bucket) → IsAdmitted key dims → key.switch < 2 ^ 16 → key.epoch < 2 ^ 32 → length buckets ≡ 8 → FitBuckets buckets
-    → IsKept key dims (take dims.rows buckets ++ drop dims.rows zeros)
-is_kept key dims buckets ok switch epoch long fits =
+    → drop dims.rows buckets ≡ drop dims.rows zeros → IsKept key dims buckets
+is_kept key dims buckets ok switch epoch long fits past =
     let few = ok.few_rows in
-    let len : length (take dims.rows buckets) ≡ dims.rows = omega (arith, length-take dims.rows buckets) in
     record {
-      column = subst IsColumn (sym (shown_kept key dims buckets (omega arith))) (record {
+      column = record {
         some_rows = ok.some_rows;
         few_rows = ok.few_rows;
         small_width = ok.small_width;
         index = ok.index;
         switch = switch;
         epoch = epoch;
-        buckets = len;
+        buckets = omega (arith, length-take dims.rows buckets);
         fit = fit_front dims.rows buckets fits;
-      });
-      zeros = drop_at (take dims.rows buckets) (drop dims.rows zeros) dims.rows len;
+      };
+      zeros = past;
     }
+
+-- the buckets once those past the rows are cleared
+pub cleared : (n : ℕ) (buckets new : List Bucket) → n ≤ 8 → length buckets ≡ 8 → new ≡ replicate (length (mid_of n (8 - n) buckets)) zero_bucket
+    → drop n (put_mid n (8 - n) buckets new) ≡ drop n zeros
+cleared n buckets new few long new-is =
+    let len : length (mid_of n (8 - n) buckets) ≡ 8 - n = omega (arith, length-take (8 - n) (drop n buckets), length-drop n buckets) in
+    let end : drop (8 - n) (drop n buckets) ≡ [] = nil_from_length (drop (8 - n) (drop n buckets)) (omega (arith, length-drop (8 - n) (drop n buckets), length-drop n buckets)) in
+    drop_at (take n buckets) (new ++ drop (8 - n) (drop n buckets)) n (omega (arith, length-take n buckets))
+    ∙ ap (λ (x : List Bucket). new ++ x) end ∙ append-nil new ∙ new-is ∙ ap (λ (k : ℕ). replicate k zero_bucket) len ∙ sym (drop-replicate n 8 zero_bucket)
 
 -- one bucket more is read
 pub read_more : (i : ℕ) (bytes : List ℕ) (kept : List Bucket) → i < 8 → kept ≡ buckets_from i bytes ++ drop i zeros

@@ -1,7 +1,7 @@
 //! A column of a sketch.
-ghost use Rattle.std.specs.Prelude.{◌≡◌, ◌<◌, MatchOption, slice_index_or, true};
+ghost use Rattle.std.specs.Prelude.{◌≡◌, ◌<◌, MatchOption, drop, length, replicate, slice_index_or, true};
 ghost use Rattle.lg_model.specs.Sketch.{zero_bucket};
-ghost use Rattle.sketchlet_wire.specs.Spelling.{shown, IsAdmitted, IsColumn};
+ghost use Rattle.sketchlet_wire.specs.Spelling.{shown, zeros, IsAdmitted, IsColumn};
 
 use crate::ranges::{buckets_fit, key_fits};
 use lg_model::{Bucket, Dims, Key};
@@ -34,7 +34,7 @@ impl Model for Column {
 impl Column {
     /// A column with these buckets, row 0 first, of which those past the rows are replaced by zeros. None exactly where the
     /// rows are not 1 to 8, the width is not 1 to 4096, or the index is not below the width. Takes no memory.
-    pub fn new(key: Key, dims: Dims, buckets: [Bucket; 8]) -> Option<Column>
+    pub fn new(key: Key, dims: Dims, mut buckets: [Bucket; 8]) -> Option<Column>
         ensures { MatchOption result (IsAdmitted key dims → ⊥) (λ c. IsAdmitted key dims × (c ≡ shown key dims buckets)) }
     {
         if dims.rows < 1
@@ -45,23 +45,19 @@ impl Column {
         {
             return None;
         }
+        clear(&mut buckets[dims.rows as usize..]);
         Some(Column::kept(key, dims, buckets))
     }
 
+    // The column of buckets that are zeros past the rows.
     pub(crate) fn kept(key: Key, dims: Dims, buckets: [Bucket; 8]) -> Column
-        requires { IsAdmitted key dims }
+        requires admitted { IsAdmitted key dims }
+        requires zeros { drop dims.rows buckets ≡ drop dims.rows zeros }
         ensures { result ≡ shown key dims buckets }
     {
         key_fits(key);
         buckets_fit(&buckets);
-        let rows = dims.rows as usize;
-        let mut kept = [Bucket { bytes: 0, delay: 0 }; 8];
-        kept[..rows].copy_from_slice(&buckets[..rows]);
-        Column {
-            key,
-            dims,
-            buckets: kept,
-        }
+        Column { key, dims, buckets }
     }
 
     /// What names the column.
@@ -94,5 +90,14 @@ impl Column {
         ensures found { self.now ≡ other.now → result ≡ true }
     {
         self == other
+    }
+}
+
+// Makes all of them zeros. `fill` would too, and takes longer.
+fn clear(buckets: &mut [Bucket])
+    ensures { buckets.new ≡ replicate (length buckets.old) zero_bucket }
+{
+    for bucket in buckets.iter_mut() {
+        *bucket = Bucket { bytes: 0, delay: 0 };
     }
 }

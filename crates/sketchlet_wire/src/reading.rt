@@ -113,7 +113,8 @@ fn kept_of(rows: u8, bytes: &[u8]) -> [Bucket; 8]
 #[tactic(auto, unfolding(crate::specs::Reading::buckets_at))]
 fn buckets_of(rows: u8, bytes: &[u8]) -> Result<([Bucket; 8], &[u8]), WireFault>
     requires { rows ≤ 8 }
-    ensures { Gives (λ x. (take rows x.0, x.1.now)) result (buckets_at rows bytes.now) }
+    ensures gives { Gives (λ x. (take rows x.0, x.1.now)) result (buckets_at rows bytes.now) }
+    ensures zeros { IfOk result (λ x. drop rows x.0 ≡ drop rows zeros) }
 {
     let len = 6 * usize::from(rows);
     if bytes.len() < len {
