@@ -7,9 +7,6 @@ use crate::ranges::{buckets_fit, key_fits};
 use lg_model::{Bucket, Dims, Key};
 use std::marker::Model;
 
-// A bucket that counted nothing.
-const ZERO: Bucket = Bucket { bytes: 0, delay: 0 };
-
 /// The buckets of one index over all rows of a frozen sketch, with what names them. The rows are 1 to 8, the width is 1
 /// to 4096, and the index is below the width.
 #[derive(Clone, Copy, Debug, PartialEq, Eq)]
@@ -96,13 +93,11 @@ impl Column {
     }
 }
 
-// Makes all of them zeros. What is zeros already is not written: it mostly is, and the copy that follows would wait for it.
+// Makes all of them zeros. `fill` would too, and takes longer.
 fn clear(buckets: &mut [Bucket])
     ensures { buckets.new ≡ replicate (length buckets.old) zero_bucket }
 {
     for bucket in buckets.iter_mut() {
-        if *bucket != ZERO {
-            *bucket = ZERO;
-        }
+        *bucket = Bucket { bytes: 0, delay: 0 };
     }
 }
