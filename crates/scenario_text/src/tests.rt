@@ -291,6 +291,13 @@ fn texts_that_are_long(rt: HostRuntime) -> Result<(), Fail> {
         read(rt.alloc(), &mut long).err(),
         bad(16_777_207, Why::TooLong)
     );
+
+    // One line, and `done` behind the bytes that are looked at.
+    let mut text = b"#".to_vec(rt.alloc())?;
+    text.resize(16_777_216, b'x')?;
+    text.extend_from_slice(b"\nguardian 1\nshape 1 1 ports\npick turns\ndone\n")?;
+    let mut behind = source(rt.alloc(), &text, 4096)?;
+    assert_eq!(rt; read(rt.alloc(), &mut behind).err(), bad(1, Why::TooLong));
     Ok(())
 }
 
