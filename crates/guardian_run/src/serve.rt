@@ -4,7 +4,7 @@ ghost use Rattle.lg_base.specs.Causes.{Rose};
 ghost use Rattle.scenario_text.specs.Text.{reading, IsTaken};
 ghost use Rattle.guardian_run.specs.Outputs.{output_of};
 ghost use Rattle.guardian_run.specs.Truth.{IsTrueRun};
-ghost use Rattle.guardian_run.specs.Top.{Writes, WritesRefusal, IsComplete, IsRead};
+ghost use Rattle.guardian_run.specs.Top.{Writes, WritesLine, WritesRefusal, IsComplete, IsRead, no_memory_line};
 
 use crate::capture::capture;
 use crate::laws::runs_are_true;
@@ -33,6 +33,15 @@ fn output(alloc: Global, command: Command, scenario: &Scenario) -> Result<Vec<u8
     }
 }
 
+// Writes the line of want of memory, and answers its status.
+fn no_memory<K: Sink>(sink: &mut K) -> Status
+    ensures status { result ≡ Status.NoMemory }
+    ensures line { WritesLine (K.written sink.old) (K.written sink.new) (K.faults sink.old) (K.faults sink.new) no_memory_line }
+    ensures never_falls { K.faults sink.old ≤ K.faults sink.new }
+{
+    refuse(sink, b"guardian: no memory\n", Status::NoMemory)
+}
+
 /// Reads a scenario from the source and writes what the command asks for into the sink, or the line of a fault.
 pub fn serve<S: Source, K: Sink>(
     alloc: Global,
@@ -58,19 +67,19 @@ pub fn serve<S: Source, K: Sink>(
         Err(ScenarioFault::Bad { line, why }) => {
             return match scenario_fault(alloc, line, why) {
                 Ok(text) => refuse(sink, &text, Status::BadScenario),
-                Err(_) => refuse(sink, b"guardian: no memory\n", Status::NoMemory),
+                Err(_) => no_memory(sink),
             };
         }
         Err(ScenarioFault::ReadFault) => {
             return refuse(sink, b"guardian: read fault\n", Status::ReadFault);
         }
         Err(ScenarioFault::Memory) => {
-            return refuse(sink, b"guardian: no memory\n", Status::NoMemory);
+            return no_memory(sink);
         }
     };
     let text = match output(alloc, command, &scenario) {
         Ok(text) => text,
-        Err(_) => return refuse(sink, b"guardian: no memory\n", Status::NoMemory),
+        Err(_) => return no_memory(sink),
     };
     match put_all(sink, &text) {
         Ok(()) => Status::Ok,
