@@ -1,8 +1,8 @@
 //! What every picker does (docs/DEFINITIONS.md, Picked list).
 ghost use Rattle.std.specs.Prelude.{◌<◌, ◌≤◌, ℕ, Option};
-ghost use Rattle.lg_model.specs.Asking.{IsLawful};
+ghost use Rattle.lg_model.specs.Offering.{IsLawful};
 ghost use Rattle.lg_model.specs.Carrying.{Offer};
-ghost use Rattle.lg_model.specs.Twin.{offer_of};
+ghost use Rattle.lg_model.specs.TwinsState.{offer_of};
 
 use epoch_freeze::Twins;
 

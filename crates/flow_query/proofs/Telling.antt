@@ -9,7 +9,8 @@ use Rattle.lg_model.specs.declared.column.Bucket.{Bucket}
 use Rattle.lg_model.specs.declared.answer.Value.{Value}
 use Rattle.lg_model.specs.declared.answer.Value.TheVariants.{Unknown, AtMost, Saturated}
 use Rattle.lg_model.specs.Placing.{Shape, place}
-use Rattle.lg_model.specs.Sketch.{bucket_in, MAX_BYTES, MAX_DELAY}
+use Rattle.lg_model.specs.Sketch.{bucket_in}
+use Rattle.lg_model.specs.declared.limits.TheConstants.{LAST_BYTES, LAST_DELAY}
 use Rattle.lg_model.specs.Answer.{Look, known_at, known, value_of}
 use Rattle.flow_query.specs.Told.{NoneIsKnown, IsLeast, IsTold, LawOfExactAnswers}
 
@@ -203,6 +204,6 @@ length_none (y ∷ ys) is = absurd (omega arith)
 pub law : LawOfExactAnswers
 law look shape s e f = record {
   rows = (λ is. none_from_empty look shape s e f (length_none (known look shape s e f) is), λ none. ap length (empty_from_none look shape s e f none));
-  bytes = told look shape s e f (λ b. b.bytes) MAX_BYTES;
-  delay = told look shape s e f (λ b. b.delay) MAX_DELAY;
+  bytes = told look shape s e f (λ b. b.bytes) LAST_BYTES;
+  delay = told look shape s e f (λ b. b.delay) LAST_DELAY;
 }

@@ -1,7 +1,7 @@
 //! The least counters of the known buckets of a flow.
 ghost use Rattle.std.specs.Prelude.{◌≡◌, ◌<◌, ◌+◌, ◌++◌, ◌∷◌, [], List, length, map};
 ghost use Rattle.lg_model.specs.declared.column.Bucket.{Bucket as GhostBucket};
-ghost use Rattle.lg_model.specs.Sketch.{MAX_BYTES, MAX_DELAY};
+ghost use Rattle.lg_model.specs.declared.limits.TheConstants.{LAST_BYTES, LAST_DELAY};
 ghost use Rattle.lg_model.specs.Answer.{value_of};
 ghost use Rattle.flow_query.specs.Least.{lower, known_of};
 
@@ -64,7 +64,7 @@ impl Known {
     /// What is told of a flow with these known rows.
     pub(crate) fn answer(&self) -> Answer
         ensures { (bs : List GhostBucket) → self.now ≡ known_of bs →
-            result ≡ record { rows_known = length bs; bytes = value_of MAX_BYTES (map (λ b. b.bytes) bs); delay = value_of MAX_DELAY (map (λ b. b.delay) bs) } }
+            result ≡ record { rows_known = length bs; bytes = value_of LAST_BYTES (map (λ b. b.bytes) bs); delay = value_of LAST_DELAY (map (λ b. b.delay) bs) } }
     {
         match self.least {
             None => Answer {

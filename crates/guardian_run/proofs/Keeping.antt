@@ -10,7 +10,8 @@ use Rattle.lg_model.specs.declared.scenario.HostLine.{HostLine}
 use Rattle.lg_model.specs.Scenario.{Scenario}
 use Rattle.lg_model.specs.Matching.{Matched}
 use Rattle.lg_model.specs.Carrying.{picked}
-use Rattle.lg_model.specs.Arriving.{Column, brought}
+use Rattle.lg_model.specs.Arriving.{brought}
+use Rattle.lg_model.specs.Columns.{Column}
 use Rattle.lg_model.specs.Answer.{Content, with_column, content_of}
 use Rattle.lg_model.proofs.Pairing.{matched_at, matched_length}
 use Rattle.lg_model.proofs.Tracing.{enumerate_from-append}

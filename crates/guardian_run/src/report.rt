@@ -3,7 +3,8 @@ ghost use Rattle.std.specs.Prelude.{◌≡◌, ◌<◌, List, length, fold, IfOk
 ghost use Rattle.lg_model.specs.Scenario.{IsScenario};
 ghost use Rattle.lg_model.specs.Matching.{Matched};
 ghost use Rattle.lg_model.specs.Carrying.{picked};
-ghost use Rattle.lg_model.specs.Arriving.{Column as Brought, brought};
+ghost use Rattle.lg_model.specs.Arriving.{brought};
+ghost use Rattle.lg_model.specs.Columns.{Column as Brought};
 ghost use Rattle.lg_model.specs.Answer.{with_column};
 ghost use Rattle.lg_model.specs.Report.{report as report_of};
 ghost use Rattle.sketchlet_wire.specs.Spelling.{ColumnData};

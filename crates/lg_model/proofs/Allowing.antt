@@ -11,9 +11,9 @@ use Rattle.std.proofs.lemmas.List.Folds.{Any-from_list_any}
 use Rattle.std.proofs.lemmas.Bool.Decides.{eqb_tells}
 use Rattle.lg_model.specs.Scenario.{Scenario}
 use Rattle.lg_model.specs.Trace.{Packet, Meeting, packets, meeting_of, meetings_of, meetings_in, meetings, reach, ended_before}
-use Rattle.lg_model.specs.Carrying.{Carry, IsCarriedAt, IsAllowed, Offer, hops_left, carries, is_ask, offer_at, carry_at, with_choice}
+use Rattle.lg_model.specs.Carrying.{Carry, IsCarriedAt, IsAllowed, Offer, hops_left, carries, is_offered, offer_at, carry_at, with_choice}
 use Rattle.lg_model.specs.Runs.{Runs}
-use Rattle.lg_model.specs.Asking.{Picks, IsLawful, Asking, asking, IsAsked, IsPick}
+use Rattle.lg_model.specs.Offering.{Picks, IsLawful, Offering, offering, IsOffered, IsPick}
 use Rattle.lg_model.proofs.Tracing.{meetings_on}
 
 -- the numbers of the meetings don't fall
@@ -111,20 +111,20 @@ found n cs h =
     let a : Any (λ (c : Carry). (c.packet == n) ≡ true) cs = Any-from_list_any (λ (c : Carry). c.packet == n) cs h in
     (a.0, a.1, a.2, a.3, elim (eqb_tells a.1.packet n) [ inl same ↦ same.1 | inr other ↦ absurd (false≢true (sym other.0 ∙ a.4)) ])
 
-step : {S : Type 0} (picks : Picks S) (w : Scenario) (past : List Meeting) (m : Meeting) (a b : Asking S) →
+step : {S : Type 0} (picks : Picks S) (w : Scenario) (past : List Meeting) (m : Meeting) (a b : Offering S) →
     Holds w past a.carried → All (λ (c : Carry). c.packet ≤ m.number) a.carried → IsPick picks w m a b →
     Holds w (past ++ m ∷ []) b.carried × All (λ (c : Carry). c.packet ≤ m.number) b.carried
 step {S} picks w past m a b holds low pick =
     let Goal : List Carry → Type 0 = λ cs. Holds w (past ++ m ∷ []) cs × All (λ (c : Carry). c.packet ≤ m.number) cs in
     let cs = a.carried in
-    (elim (is_ask w cs m) as (λ (v : Bool). is_ask w cs m ≡ v → Goal b.carried) [
-      | true ↦ λ yes_ask.
-          let asked : IsAsked picks w m a b = pick.asks yes_ask in
-          let law : IsLawful (hops_left m) (offer_at w cs m) asked.answer = asked.lawful in
-          let none : carries cs m.number ≡ false = not_true (carries cs m.number) (and_right (nat_lt 0 (ended_before w m)) (not (carries cs m.number)) yes_ask) in
-          let early : nat_lt 0 (ended_before w m) ≡ true = and_left (nat_lt 0 (ended_before w m)) (not (carries cs m.number)) yes_ask in
+    (elim (is_offered w cs m) as (λ (v : Bool). is_offered w cs m ≡ v → Goal b.carried) [
+      | true ↦ λ yes_offer.
+          let offered : IsOffered picks w m a b = pick.offers yes_offer in
+          let law : IsLawful (hops_left m) (offer_at w cs m) offered.answer = offered.lawful in
+          let none : carries cs m.number ≡ false = not_true (carries cs m.number) (and_right (nat_lt 0 (ended_before w m)) (not (carries cs m.number)) yes_offer) in
+          let early : nat_lt 0 (ended_before w m) ≡ true = and_left (nat_lt 0 (ended_before w m)) (not (carries cs m.number)) yes_offer in
           let some : 0 < ended_before w m = search (rules, tests) in
-          subst Goal (sym asked.carried) ((elim asked.answer as (λ (v : Option ℕ). IsLawful (hops_left m) (offer_at w cs m) v → Goal (with_choice w m cs v)) [
+          subst Goal (sym offered.carried) ((elim offered.answer as (λ (v : Option ℕ). IsLawful (hops_left m) (offer_at w cs m) v → Goal (with_choice w m cs v)) [
             | None ↦ λ rule. (
               record {
                 rising = holds.rising;
@@ -145,14 +145,14 @@ step {S} picks w past m a b holds low pick =
                   All-push (λ (x : Carry). x.packet ≤ m.number) cs c low (let e : m.number ≤ m.number = omega arith in e),
                 )
           ]) law)
-      | false ↦ λ no_ask.
-          subst (λ (x : Asking S). Goal x.carried) (sym (pick.passes no_ask)) (
+      | false ↦ λ no_offer.
+          subst (λ (x : Offering S). Goal x.carried) (sym (pick.passes no_offer)) (
             record {
               rising = holds.rising;
               each = each_wide w past m cs holds.each;
               last = All-push (IsLast w cs) past m holds.last (λ at q.
                   let early : nat_lt 0 (ended_before w m) ≡ true = search (rules, tests) in
-                  let left : not (carries cs m.number) ≡ false = ap (λ (v : Bool). v && not (carries cs m.number)) (sym early) ∙ no_ask in
+                  let left : not (carries cs m.number) ≡ false = ap (λ (v : Bool). v && not (carries cs m.number)) (sym early) ∙ no_offer in
                   found m.number cs (not_false (carries cs m.number) left));
             },
             low,
@@ -171,21 +171,21 @@ low_next : (m : Meeting) (cs : List Carry) (ms : List Meeting) → All (λ (c : 
 low_next m cs [] low up = tt
 low_next m cs (x ∷ ms) low up = lower m.number x.number cs (All-head (λ (y : Meeting). m.number ≤ y.number) x ms up) low
 
-walk : {S : Type 0} (picks : Picks S) (w : Scenario) (past ms : List Meeting) (a b : Asking S) →
+walk : {S : Type 0} (picks : Picks S) (w : Scenario) (past ms : List Meeting) (a b : Offering S) →
     Holds w past a.carried → Low a.carried ms → Rising ms → Runs (IsPick picks w) ms a b → Holds w (past ++ ms) b.carried
 walk {S} picks w past [] a b holds low up run =
-    subst (λ (x : Asking S). Holds w (past ++ []) x.carried) (sym run) (subst (λ xs. Holds w xs a.carried) (sym (append-nil past)) holds)
+    subst (λ (x : Offering S). Holds w (past ++ []) x.carried) (sym run) (subst (λ xs. Holds w xs a.carried) (sym (append-nil past)) holds)
 walk picks w past (m ∷ ms) a b holds low up run =
     let one = step picks w past m a run.0 holds low run.1 in
     subst (λ xs. Holds w xs b.carried) (append_assoc past (m ∷ []) ms)
     (walk picks w (past ++ m ∷ []) ms run.0 b one.0 (low_next m run.0.carried ms one.1 up.0) up.1 run.2)
 
 -- what lawful pickers let the packets carry is allowed
-pub allowed : {S : Type 0} (picks : Picks S) (w : Scenario) (ps : List S) (b : Asking S) →
-    Runs (IsPick picks w) (meetings w) (asking ps []) b → IsAllowed w b.carried
+pub allowed : {S : Type 0} (picks : Picks S) (w : Scenario) (ps : List S) (b : Offering S) →
+    Runs (IsPick picks w) (meetings w) (offering ps []) b → IsAllowed w b.carried
 allowed picks w ps b run =
     let start : Holds w [] [] = record { rising = λ k h. absurd (omega arith); each = All-nil (λ c. Any (IsCarriedAt w c) []); last = All-nil (IsLast w []) } in
-    let h = walk picks w [] (meetings w) (asking ps []) b start (none (meetings w)) (rising_on 0 (packets w)) run in
+    let h = walk picks w [] (meetings w) (offering ps []) b start (none (meetings w)) (rising_on 0 (packets w)) run in
     record { rising = h.rising; each = h.each; last = h.last }
   where
     none : (ms : List Meeting) → Low [] ms

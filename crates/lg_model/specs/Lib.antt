@@ -2,12 +2,14 @@ pub mod Placing
 pub mod Scenario
 pub mod Matching
 pub mod Trace
+pub mod Columns
 pub mod Sketch
 pub mod Bound
 pub mod Carrying
 pub mod Arriving
-pub mod Twin
-pub mod Asking
+pub mod Midway
+pub mod TwinsState
+pub mod Offering
 pub mod Runs
 pub mod Answer
 pub mod Report

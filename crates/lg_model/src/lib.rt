@@ -15,8 +15,10 @@
 mod answer;
 mod column;
 mod laws;
+pub mod limits;
 mod lists;
 mod scenario;
+mod shape;
 
 pub use answer::{Answer, Value};
 pub use column::{Bucket, Dims, Key};
@@ -25,3 +27,4 @@ pub use laws::{
 };
 pub use lists::{Delays, Letters, Path};
 pub use scenario::{Ask, Fate, Flow, Hash, HostLine, Letter, Pick, Step};
+pub use shape::Shape;

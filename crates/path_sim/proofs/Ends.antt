@@ -7,10 +7,12 @@ use Rattle.std.proofs.lemmas.List.Elements.{All-nil, All-replicate}
 use Rattle.lg_model.specs.Scenario.{Scenario}
 use Rattle.lg_model.specs.Trace.{packets, packets_of, packets_until, meetings_in, Packet}
 use Rattle.lg_model.specs.Matching.{Matched}
-use Rattle.lg_model.specs.Asking.{Picks, IsPick, asking}
+use Rattle.lg_model.specs.Offering.{Picks, IsPick, offering}
 use Rattle.lg_model.specs.Runs.{Runs}
-use Rattle.lg_model.specs.Twin.{Twin, AreTwins, new_twin}
-use Rattle.lg_model.specs.Arriving.{Column, packets_to, arrivals, arrivals_at, arrivals_until, held, deliveries, arrived_to, held_to, AreDelivered}
+use Rattle.lg_model.specs.TwinsState.{TwinsState, AreTwins, new_twins}
+use Rattle.lg_model.specs.Arriving.{arrivals, arrivals_at, arrivals_until, held, deliveries}
+use Rattle.lg_model.specs.Columns.{Column}
+use Rattle.lg_model.specs.Midway.{packets_to, arrived_to, held_to, AreDelivered}
 use Rattle.lg_model.proofs.Twinning.{twins_start}
 use Rattle.lg_model.proofs.Arrivals.{arrived_start, held_start, deliveries_append, deliveries_reverse}
 use Rattle.lg_model.proofs.Allowing.{allowed}
@@ -23,11 +25,11 @@ use Rattle.path_sim.specs.Arrived.{HaveArrived}
 use Rattle.path_sim.proofs.Steps.{prefix_all}
 
 -- nothing has happened
-pub started : (w : Scenario) (t : Traffic) (twins : List Twin) (inboxes : List (List Packed)) → t.twins.items ≡ twins → twins ≡ replicate (length w.switches) (new_twin w.shape) → t.inboxes.items ≡ inboxes → inboxes ≡ replicate (length w.hosts) [] →
+pub started : (w : Scenario) (t : Traffic) (twins : List TwinsState) (inboxes : List (List Packed)) → t.twins.items ≡ twins → twins ≡ replicate (length w.switches) (new_twins w.shape) → t.inboxes.items ≡ inboxes → inboxes ≡ replicate (length w.hosts) [] →
     t.carried.items ≡ [] → t.held.items ≡ [] → IsTraffic w 0 0 t
 started w t twins inboxes twins_is fresh inboxes_is empty carried held_is =
-    let at_start : AreTwins w 0 [] [] twins = twins_start w twins (ap length fresh ∙ length-replicate (length w.switches) (new_twin w.shape))
-    (subst (All (λ (x : Twin). x ≡ new_twin w.shape)) (sym fresh) (All-replicate (λ (x : Twin). x ≡ new_twin w.shape) (length w.switches) (new_twin w.shape) refl)) in
+    let at_start : AreTwins w 0 [] [] twins = twins_start w twins (ap length fresh ∙ length-replicate (length w.switches) (new_twins w.shape))
+    (subst (All (λ (x : TwinsState). x ≡ new_twins w.shape)) (sym fresh) (All-replicate (λ (x : TwinsState). x ≡ new_twins w.shape) (length w.switches) (new_twins w.shape) refl)) in
     let long : length inboxes ≡ length w.hosts = ap length empty ∙ length-replicate (length w.hosts) [] in
     let nothing : AreDelivered (IsOf w) [] inboxes = record {
       each = λ h low.
@@ -51,13 +53,13 @@ until_all w = ap (λ xs. flat_map (packets_of w.flows) (enumerate_from 0 xs)) (t
 
 -- all steps are done
 pub ended_all : {S : Type 0} (picks : Picks S) (w : Scenario) (n k : ℕ) (t : Traffic) (ps qs : List S) → n ≡ length w.steps → k ≡ length (packets_until w n) → IsTraffic w n k t →
-    Runs (IsPick picks w) (meetings_in (packets_to w k)) (asking ps []) (asking qs (carried_are t.carried.items)) → HasEnded w t
+    Runs (IsPick picks w) (meetings_in (packets_to w k)) (offering ps []) (offering qs (carried_are t.carried.items)) → HasEnded w t
 ended_all {S} picks w n k t ps qs all number is run =
     let many : k ≡ length (packets w) = number ∙ ap (λ (a : ℕ). length (packets_until w a)) all ∙ ap length (until_all w) in
     record {
       traffic = subst (λ (a : ℕ). IsTraffic w a (length (packets w)) t) all (subst (λ (a : ℕ). IsTraffic w n a t) many is);
-      allowed = allowed picks w ps (asking qs (carried_are t.carried.items))
-          (subst (λ (xs : List Packet). Runs (IsPick picks w) (meetings_in xs) (asking ps []) (asking qs (carried_are t.carried.items))) (prefix_all w n k all number) run);
+      allowed = allowed picks w ps (offering qs (carried_are t.carried.items))
+          (subst (λ (xs : List Packet). Runs (IsPick picks w) (meetings_in xs) (offering ps []) (offering qs (carried_are t.carried.items))) (prefix_all w n k all number) run);
     }
 
 -- and what is held has arrived

@@ -7,8 +7,10 @@ use Rattle.lg_model.specs.Trace.{packets, packets_until, meetings_in}
 use Rattle.lg_model.specs.Carrying as model
 use Rattle.lg_model.specs.Carrying.{Adds}
 use Rattle.std.proofs.Math.Seq.{take-append_seam}
-use Rattle.lg_model.specs.Twin.{Twin, AreTwins}
-use Rattle.lg_model.specs.Arriving.{Column, packets_to, packet_at, arrives, is_late, deliveries, arrived_to, held_to, AreDelivered}
+use Rattle.lg_model.specs.TwinsState.{TwinsState, AreTwins}
+use Rattle.lg_model.specs.Arriving.{packet_at, arrives, is_late, deliveries}
+use Rattle.lg_model.specs.Columns.{Column}
+use Rattle.lg_model.specs.Midway.{packets_to, arrived_to, held_to, AreDelivered}
 use Rattle.lg_model.proofs.Arrivals.{deliveries_stay, arrived_more, held_one_more, arrived_below, held_to_below}
 use Rattle.sketchlet_wire.specs.declared.packed.Packed.{Packed}
 use Rattle.path_sim.specs.declared.inbox.Held.{Held}
@@ -41,7 +43,7 @@ all_ok (Ok x) A B C D f a b c = f x a b c
 all_ok (Err e) A B C D f a b c = tt
 
 -- what stands after the packet of number k
-pub onward : (w : Scenario) (n k : ℕ) (fate : Fate) (old new : Traffic) (twins' : List Twin) (inboxes' : List (List Packed)) (cargo : Option Packed) → new.twins.items ≡ twins' → new.inboxes.items ≡ inboxes' → n ≤ length w.steps → length (packets_until w n) ≤ k → k < length (packets w) → (packet_at w k).fate ≡ fate →
+pub onward : (w : Scenario) (n k : ℕ) (fate : Fate) (old new : Traffic) (twins' : List TwinsState) (inboxes' : List (List Packed)) (cargo : Option Packed) → new.twins.items ≡ twins' → new.inboxes.items ≡ inboxes' → n ≤ length w.steps → length (packets_until w n) ≤ k → k < length (packets w) → (packet_at w k).fate ≡ fate →
     IsTraffic w n k old → All (IsBefore (k + 1)) (carried_are new.carried.items) → length new.carried.items ≤ k + 1 → (All (IsNamed w) old.carried.items → All (IsNamed w) new.carried.items) →
     AreTwins w n (meetings_in (packets_to w (k + 1))) (carried_are new.carried.items) twins' → Adds k (carried_are old.carried.items) (carried_are new.carried.items) →
     IsCargo w (carried_are new.carried.items) k cargo → length inboxes' ≡ length old.inboxes.items →

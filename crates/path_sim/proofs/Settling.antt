@@ -8,7 +8,9 @@ use Rattle.lg_model.specs.declared.scenario.Fate.TheVariants.{Straight, Lost, Tw
 use Rattle.lg_model.specs.Scenario.{Scenario}
 use Rattle.lg_model.specs.Matching.{MatchedOption}
 use Rattle.lg_model.specs.Carrying as model
-use Rattle.lg_model.specs.Arriving.{Column, packet_at, arrives, is_late, cargo, brings, deliveries, AreDelivered}
+use Rattle.lg_model.specs.Arriving.{packet_at, arrives, is_late, cargo, brings, deliveries}
+use Rattle.lg_model.specs.Columns.{Column}
+use Rattle.lg_model.specs.Midway.{AreDelivered}
 use Rattle.lg_model.proofs.Arrivals.{deliver_one, deliveries_append}
 use Rattle.lg_model.proofs.Pairing.{matched_push, Parted, matched_pop, matched_none}
 use Rattle.sketchlet_wire.specs.declared.packed.Packed.{Packed}

@@ -2,7 +2,7 @@
 use Rattle.std.specs.Prelude.{◌≡◌, ℕ, ◌<◌, List}
 use Rattle.lg_model.specs.Scenario.{Scenario}
 use Rattle.lg_model.specs.Matching.{Matched}
-use Rattle.lg_model.specs.Arriving.{Column}
+use Rattle.lg_model.specs.Columns.{Column}
 use Rattle.path_sim.specs.declared.inbox.Held.{Held}
 use Rattle.path_sim.specs.Parts.{IsOf}
 

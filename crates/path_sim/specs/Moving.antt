@@ -3,8 +3,9 @@ use Rattle.std.specs.Prelude.{◌≡◌, ℕ, ◌≤◌, length, All}
 use Rattle.lg_model.specs.Scenario.{Scenario}
 use Rattle.lg_model.specs.Trace.{meetings_in, packets}
 use Rattle.lg_model.specs.Carrying.{IsAllowed}
-use Rattle.lg_model.specs.Twin.{AreTwins}
-use Rattle.lg_model.specs.Arriving.{packets_to, deliveries, arrived_to, held_to, AreDelivered}
+use Rattle.lg_model.specs.TwinsState.{AreTwins}
+use Rattle.lg_model.specs.Arriving.{deliveries}
+use Rattle.lg_model.specs.Midway.{packets_to, arrived_to, held_to, AreDelivered}
 use Rattle.path_sim.specs.declared.traffic.Traffic.{Traffic}
 use Rattle.path_sim.specs.Parts.{carried_are, IsBefore, IsNamed, IsOf}
 use Rattle.path_sim.specs.Holding.{AreHeld, IsInside}

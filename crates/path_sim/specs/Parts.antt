@@ -8,7 +8,9 @@ use Rattle.lg_model.specs.Scenario.{Scenario}
 use Rattle.lg_model.specs.Matching.{MatchedOption}
 use Rattle.lg_model.specs.Trace.{Meeting, meetings_in, meetings_of}
 use Rattle.lg_model.specs.Carrying as model
-use Rattle.lg_model.specs.Arriving.{Column, packets_to, packet_at, cargo}
+use Rattle.lg_model.specs.Arriving.{packet_at, cargo}
+use Rattle.lg_model.specs.Columns.{Column}
+use Rattle.lg_model.specs.Midway.{packets_to}
 use Rattle.sketchlet_wire.specs.declared.packed.Packed.{Packed}
 use Rattle.sketchlet_wire.specs.Packing.{IsPacked}
 use Rattle.sketchlet_wire.specs.Carried.{column_data, dims_of}

@@ -2,7 +2,9 @@
 ghost use Rattle.std.specs.Prelude.{◌≡◌, ◌<◌, ◌++◌, ◌∷◌, [], ℕ, List, cond, length, reverse, IfOk, All};
 ghost use Rattle.lg_model.specs.Scenario.{Scenario};
 ghost use Rattle.lg_model.specs.Carrying as model;
-ghost use Rattle.lg_model.specs.Arriving.{Column, packet_at, arrives, is_late, deliveries, AreDelivered};
+ghost use Rattle.lg_model.specs.Arriving.{packet_at, arrives, is_late, deliveries};
+ghost use Rattle.lg_model.specs.Columns.{Column};
+ghost use Rattle.lg_model.specs.Midway.{AreDelivered};
 ghost use Rattle.path_sim.specs.Parts.{IsOf, IsCargo};
 ghost use Rattle.path_sim.specs.Holding.{AreHeld, IsInside};
 

@@ -3,10 +3,10 @@ ghost use Rattle.std.specs.Prelude.{◌≡◌, ℕ, ◌<◌, ◌≤◌, ◌+◌,
 ghost use Rattle.lg_model.specs.Scenario.{IsScenario, reached};
 ghost use Rattle.lg_model.specs.Trace.{meetings_in, packets_until};
 ghost use Rattle.lg_model.specs.declared.scenario.Step.TheVariants as steps;
-ghost use Rattle.lg_model.specs.Arriving.{packets_to};
-ghost use Rattle.lg_model.specs.Asking.{IsPick, asking};
+ghost use Rattle.lg_model.specs.Midway.{packets_to};
+ghost use Rattle.lg_model.specs.Offering.{IsPick, offering};
 ghost use Rattle.lg_model.specs.Runs.{Runs};
-ghost use Rattle.lg_model.specs.Twin.{Twin, with_end};
+ghost use Rattle.lg_model.specs.TwinsState.{TwinsState, with_end};
 ghost use Rattle.path_sim.specs.Parts.{carried_are, flow_places, step_in};
 ghost use Rattle.path_sim.specs.Moving.{IsTraffic};
 
@@ -23,8 +23,8 @@ use scenario_text::Scenario;
 // A switch ends an epoch.
 fn end_one(twins: &mut [Twins], switch_at: u16)
     requires inside { switch_at < length twins.old }
-    requires few { (d : Twin) → (slice_index_or twins.old switch_at d).epoch < 65535 }
-    ensures { (d : Twin) → twins.new ≡ slice_set twins.old switch_at (with_end (slice_index_or twins.old switch_at d)) }
+    requires few { (d : TwinsState) → (slice_index_or twins.old switch_at d).epoch < 65535 }
+    ensures { (d : TwinsState) → twins.new ≡ slice_set twins.old switch_at (with_end (slice_index_or twins.old switch_at d)) }
 {
     let twin = &mut twins[switch_at as usize];
     twin.end();
@@ -32,7 +32,7 @@ fn end_one(twins: &mut [Twins], switch_at: u16)
 
 // Every switch ends an epoch.
 fn end_all(twins: &mut [Twins])
-    requires { (s : ℕ) (d : Twin) → s < length twins.old → (slice_index_or twins.old s d).epoch < 65535 }
+    requires { (s : ℕ) (d : TwinsState) → s < length twins.old → (slice_index_or twins.old s d).epoch < 65535 }
     ensures { twins.new ≡ map with_end twins.old }
 {
     for s in 0..twins.len() {
@@ -65,8 +65,8 @@ fn packet_step<P: Picker>(
     ensures number { number + count ≡ length (packets_until scenario.now (step_at + 1)) }
     ensures few { number + count ≤ 1000000 }
     ensures traffic { IfOk result (λ _. IsTraffic scenario.now (step_at + 1) (number + count) traffic.new) }
-    ensures picks { IfOk result (λ _. (start : _) → Runs (IsPick P.picks scenario.now) (meetings_in (packets_to scenario.now number)) start (asking pickers.old (carried_are traffic.old.carried.items))
-        → Runs (IsPick P.picks scenario.now) (meetings_in (packets_to scenario.now (number + count))) start (asking pickers.new (carried_are traffic.new.carried.items))) }
+    ensures picks { IfOk result (λ _. (start : _) → Runs (IsPick P.picks scenario.now) (meetings_in (packets_to scenario.now number)) start (offering pickers.old (carried_are traffic.old.carried.items))
+        → Runs (IsPick P.picks scenario.now) (meetings_in (packets_to scenario.now (number + count))) start (offering pickers.new (carried_are traffic.new.carried.items))) }
 {
     let flow = &scenario.flows()[flow_at as usize];
     let places = &places[flow_at as usize];
@@ -109,8 +109,8 @@ pub fn step_once<P: Picker>(
     requires traffic { IsTraffic scenario.now step_at number traffic.old }
     ensures number { IfOk result (λ next. next ≡ length (packets_until scenario.now (step_at + 1))) }
     ensures traffic { IfOk result (λ next. IsTraffic scenario.now (step_at + 1) next traffic.new) }
-    ensures picks { IfOk result (λ next. (start : _) → Runs (IsPick P.picks scenario.now) (meetings_in (packets_to scenario.now number)) start (asking pickers.old (carried_are traffic.old.carried.items))
-        → Runs (IsPick P.picks scenario.now) (meetings_in (packets_to scenario.now next)) start (asking pickers.new (carried_are traffic.new.carried.items))) }
+    ensures picks { IfOk result (λ next. (start : _) → Runs (IsPick P.picks scenario.now) (meetings_in (packets_to scenario.now number)) start (offering pickers.old (carried_are traffic.old.carried.items))
+        → Runs (IsPick P.picks scenario.now) (meetings_in (packets_to scenario.now next)) start (offering pickers.new (carried_are traffic.new.carried.items))) }
 {
     match &scenario.steps()[step_at] {
         Step::Packet {

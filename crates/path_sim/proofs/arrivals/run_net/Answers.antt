@@ -1,5 +1,5 @@
 use Rattle.std.proofs.Common.{◌≡◌, ◌∙◌, ap, sym, subst, length, List}
-use Rattle.lg_model.specs.Arriving.{AreDelivered}
+use Rattle.lg_model.specs.Midway.{AreDelivered}
 use Rattle.sketchlet_wire.specs.declared.packed.Packed.{Packed}
 use Rattle.path_sim.specs.Parts.{IsOf}
 use Rattle.path_sim.proofs.Onward.{refill}

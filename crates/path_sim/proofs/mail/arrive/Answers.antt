@@ -1,6 +1,7 @@
 use Rattle.std.proofs.Common.{◌≡◌, ℕ, ◌++◌, ◌∷◌, [], List, IfOk, Ok, Err, slice_set, slice_index_or}
 use Rattle.lg_model.specs.Scenario.{Scenario}
-use Rattle.lg_model.specs.Arriving.{Column, AreDelivered}
+use Rattle.lg_model.specs.Columns.{Column}
+use Rattle.lg_model.specs.Midway.{AreDelivered}
 use Rattle.sketchlet_wire.specs.declared.packed.Packed.{Packed}
 use Rattle.path_sim.specs.Parts.{IsOf}
 use Rattle.path_sim.proofs.Settling.{delivered}

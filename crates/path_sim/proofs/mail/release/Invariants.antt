@@ -1,6 +1,7 @@
 use Rattle.std.specs.Prelude.{ℕ, List, length, All}
 use Rattle.lg_model.specs.Scenario.{Scenario}
-use Rattle.lg_model.specs.Arriving.{Column, AreDelivered}
+use Rattle.lg_model.specs.Columns.{Column}
+use Rattle.lg_model.specs.Midway.{AreDelivered}
 use Rattle.path_sim.specs.Parts.{IsOf}
 use Rattle.path_sim.specs.Holding.{AreHeld, IsInside}
 use Rattle.path_sim.proofs.Settling.{Released}

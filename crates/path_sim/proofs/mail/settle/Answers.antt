@@ -1,7 +1,9 @@
 use Rattle.std.proofs.Common.{ℕ, ◌++◌, ◌∷◌, [], List, cond, subst, sym}
 use Rattle.std.proofs.lemmas.Result.{IfOk-weaker}
 use Rattle.lg_model.specs.declared.scenario.Fate.{Fate}
-use Rattle.lg_model.specs.Arriving.{Column, AreDelivered, arrives, deliveries, is_late}
+use Rattle.lg_model.specs.Arriving.{arrives, deliveries, is_late}
+use Rattle.lg_model.specs.Columns.{Column}
+use Rattle.lg_model.specs.Midway.{AreDelivered}
 use Rattle.path_sim.specs.declared.inbox.Held.{Held}
 use Rattle.path_sim.specs.Parts.{IsOf, IsCargo}
 use Rattle.path_sim.specs.Holding.{AreHeld}

@@ -1,8 +1,8 @@
-use Rattle.std.proofs.Common.{◌≡◌, ◌∙◌, ap, sym, ℕ, length}
+use Rattle.std.proofs.Common.{◌≡◌, ◌∙◌, ap, sym, ℕ, length, subst}
 use Rattle.std.specs.Prelude.{List, All}
-use Rattle.std.proofs.Common.{subst}
 use Rattle.lg_model.specs.Trace.{Packet}
-use Rattle.lg_model.specs.Arriving.{AreDelivered, deliveries}
+use Rattle.lg_model.specs.Arriving.{deliveries}
+use Rattle.lg_model.specs.Midway.{AreDelivered}
 use Rattle.sketchlet_wire.specs.declared.packed.Packed.{Packed}
 use Rattle.path_sim.specs.Parts.{IsOf}
 use Rattle.path_sim.specs.Holding.{IsInside}

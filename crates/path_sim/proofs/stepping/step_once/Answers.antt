@@ -1,6 +1,6 @@
 use Rattle.std.proofs.Common.{◌≡◌, ◌<◌, ◌∙◌, refl, sym, ap, subst, arith, length, List, eq-eqb}
 use Rattle.lg_model.specs.declared.scenario.Step.TheVariants as steps
-use Rattle.lg_model.specs.Arriving.{AreDelivered}
+use Rattle.lg_model.specs.Midway.{AreDelivered}
 use Rattle.sketchlet_wire.specs.declared.packed.Packed.{Packed}
 use Rattle.path_sim.specs.Parts.{step_in, IsOf}
 use Rattle.path_sim.proofs.Onward.{refill}
@@ -41,7 +41,7 @@ returns-in-End-clause-traffic g c =
     let fits : s < length w.switches = step_fits w n (steps.End s) c.steps.ensures.fits c.requires.inside step in
     let inside : s < length c.deref_mut.result.now = omega (arith, c.requires.traffic.twins.count, ap length c.deref_mut.ensures.value) in
     let twins = refill old.twins.len old.twins.items c.end_one.new.twins (c.end_one.auto.twins ∙ c.deref_mut.ensures.len) in
-    let d = Rattle.lg_model.specs.Twin.new_twin w.shape in
+    let d = Rattle.lg_model.specs.TwinsState.new_twins w.shape in
     ended_one w n c.args.number s old _ c.deref_mut.result.now c.end_one.new.twins d c.requires.inside c.requires.number step inside c.requires.traffic c.deref_mut.ensures.value (c.end_one.ensures d) twins refl refl refl
 
 pub returns-in-EndAll-clause-number : goal.returns-in-EndAll-clause-number

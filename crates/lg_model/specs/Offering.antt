@@ -2,7 +2,7 @@
 use Rattle.std.specs.Prelude.{◌≡◌, ℕ, ◌<◌, Bool, true, false, List, slice_set, slice_get, Option, Some, None, IfSome, IfNone}
 use Rattle.lg_model.specs.Scenario.{Scenario}
 use Rattle.lg_model.specs.Trace.{Meeting}
-use Rattle.lg_model.specs.Carrying.{Carry, Offer, hops_left, is_ask, offer_at, with_choice}
+use Rattle.lg_model.specs.Carrying.{Carry, Offer, hops_left, is_offered, offer_at, with_choice}
 
 -- What a picker may answer: the picker before, the hops left, the offer, the answer, the picker after.
 abbrev pub Picks : Type 0 → Type 1
@@ -14,15 +14,15 @@ pub record IsLawful (hops : ℕ) (offer : Offer) (answer : Option ℕ) : Type 0 
   pub none : IfNone answer (1 < hops)
 
 -- The pickers of the switches, and what is carried so far.
-pub record Asking (S : Type 0) : Type 0 where
+pub record Offering (S : Type 0) : Type 0 where
   pub pickers : List S
   pub carried : List Carry
 
-abbrev pub asking : {S : Type 0} → List S → List Carry → Asking S
-asking ps cs = record { pickers = ps; carried = cs }
+abbrev pub offering : {S : Type 0} → List S → List Carry → Offering S
+offering ps cs = record { pickers = ps; carried = cs }
 
 -- The picker of the switch answers, and the packet carries what it says.
-pub record IsAsked {S : Type 0} (picks : Picks S) (w : Scenario) (m : Meeting) (old new : Asking S) : Type 0 where
+pub record IsOffered {S : Type 0} (picks : Picks S) (w : Scenario) (m : Meeting) (old new : Offering S) : Type 0 where
   pub before : S
   pub after : S
   pub answer : Option ℕ
@@ -32,7 +32,7 @@ pub record IsAsked {S : Type 0} (picks : Picks S) (w : Scenario) (m : Meeting) (
   pub pickers : new.pickers ≡ slice_set old.pickers m.switch_at after
   pub carried : new.carried ≡ with_choice w m old.carried answer
 
--- What a meeting does to pickers and carried columns: an ask, or nothing.
-pub record IsPick {S : Type 0} (picks : Picks S) (w : Scenario) (m : Meeting) (old new : Asking S) : Type 0 where
-  pub asks : is_ask w old.carried m ≡ true → IsAsked picks w m old new
-  pub passes : is_ask w old.carried m ≡ false → new ≡ old
+-- What a meeting does to pickers and carried columns: an offer, or nothing.
+pub record IsPick {S : Type 0} (picks : Picks S) (w : Scenario) (m : Meeting) (old new : Offering S) : Type 0 where
+  pub offers : is_offered w old.carried m ≡ true → IsOffered picks w m old new
+  pub passes : is_offered w old.carried m ≡ false → new ≡ old
