@@ -41,7 +41,7 @@ hops_left m = m.hops - m.hop + 1
 abbrev pub carries : List Carry → ℕ → Bool
 carries cs n = list_any (λ (c : Carry). c.packet == n) cs
 
--- A picker is offered where the switch has a frozen sketch and the packet carries nothing.
+-- A packet is offered a column where the switch has a frozen sketch and the packet carries nothing.
 abbrev pub is_offered : Scenario → List Carry → Meeting → Bool
 is_offered w cs m = nat_lt 0 (ended_before w m) && not (carries cs m.number)
 
@@ -137,3 +137,7 @@ pick_at w now m =
 -- The picked list: what the scenario's own pickers let the packets carry, by packet and then by hop.
 abbrev pub picked : Scenario → List Carry
 picked w = (fold (pick_at w) (record { offered = []; carried = [] }) (meetings w)).carried
+
+-- The picked list is allowed, whatever the scenario's pickers are.
+abbrev pub LawOfThePickedList : Type 0
+LawOfThePickedList = (w : Scenario) → 0 < w.shape.width → IsAllowed w (picked w)
