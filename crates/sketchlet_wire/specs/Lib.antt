@@ -3,5 +3,4 @@ pub mod Reading
 pub mod Law
 pub mod Uploads
 pub mod Packing
-pub mod Carried
 pub mod Worked

@@ -7,7 +7,8 @@ use Rattle.lg_model.specs.declared.column.Key.{Key}
 use Rattle.lg_model.specs.declared.column.Dims.{Dims}
 use Rattle.sketchlet_wire.specs.declared.fault.WireFault.{WireFault}
 use Rattle.sketchlet_wire.specs.declared.fault.WireFault.TheVariants.{Short, NotSketchlet, BadRows, BadWidth, BadIndex}
-use Rattle.sketchlet_wire.specs.Spelling.{ColumnData, spelling_len}
+use Rattle.lg_model.specs.Columns.{Column}
+use Rattle.sketchlet_wire.specs.Spelling.{spelling_len}
 
 -- Goes on with the value of a step that did not fail.
 infixl 10 ◌>>=◌
@@ -94,11 +95,11 @@ key_at width bytes = do
   index ← index_at width epoch.1
   Ok (key_of_parts switch.0 epoch.0 index.0, index.1)
 
-abbrev pub column_of_parts : Key → Dims → List Bucket → ColumnData
-column_of_parts key dims buckets = record { key = key; dims = dims; buckets = buckets }
+abbrev pub column_of_parts : Key → Dims → List Bucket → Column
+column_of_parts key dims buckets = record { key = key; dims = dims; cells = record { buckets = buckets } }
 
 -- The column at the front, and the bytes after it.
-unfoldable pub column_at : List ℕ → Result (ColumnData × List ℕ) WireFault
+unfoldable pub column_at : List ℕ → Result (Column × List ℕ) WireFault
 column_at bytes = do
   rest ← marks_at bytes
   dims ← dims_at rest
@@ -107,5 +108,5 @@ column_at bytes = do
   Ok (column_of_parts key.0 dims.0 buckets.0, buckets.1)
 
 -- The column at the front, and the length of its spelling.
-abbrev pub column_reading : List ℕ → Result (ColumnData × ℕ) WireFault
+abbrev pub column_reading : List ℕ → Result (Column × ℕ) WireFault
 column_reading bytes = column_at bytes >>= λ x. Ok (x.0, spelling_len x.0.dims.rows)

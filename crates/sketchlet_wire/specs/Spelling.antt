@@ -7,13 +7,8 @@ use Rattle.std.specs.Int.{w16, w32, to_be_bytes}
 use Rattle.lg_model.specs.declared.column.Bucket.{Bucket}
 use Rattle.lg_model.specs.declared.column.Key.{Key}
 use Rattle.lg_model.specs.declared.column.Dims.{Dims}
+use Rattle.lg_model.specs.Columns.{Column}
 use Rattle.lg_model.specs.Sketch.{zero_bucket}
-
--- A column: what names it, the size of its sketch, and as many buckets as rows, row 0 first.
-pub record ColumnData : Type 0 where
-  pub key : Key
-  pub dims : Dims
-  pub buckets : List Bucket
 
 -- The ranges of a bucket: the sum has 4 bytes, the maximum 2.
 pub record FitsBucket (b : Bucket) : Type 0 where
@@ -25,15 +20,15 @@ FitBuckets bs = (i : ℕ) → FitsBucket (slice_index_or bs i zero_bucket)
 
 -- What has a spelling: 1 to 8 rows, a width of at most 4096, an index below it, as many buckets as rows, and numbers
 -- that their fields hold.
-pub record IsColumn (c : ColumnData) : Type 0 where
+pub record IsColumn (c : Column) : Type 0 where
   pub some_rows : 1 ≤ c.dims.rows
   pub few_rows : c.dims.rows ≤ 8
   pub small_width : c.dims.width ≤ 4096
   pub index : c.key.index < c.dims.width
   pub switch : c.key.switch < 2 ^ 16
   pub epoch : c.key.epoch < 2 ^ 32
-  pub buckets : length c.buckets ≡ c.dims.rows
-  pub fit : FitBuckets c.buckets
+  pub buckets : length c.cells.buckets ≡ c.dims.rows
+  pub fit : FitBuckets c.cells.buckets
 
 -- The ranges of dimensions: 1 to 8 rows of 1 to 4096 buckets.
 pub record IsDims (dims : Dims) : Type 0 where
@@ -67,8 +62,8 @@ unfoldable pub key_bytes : Key → List ℕ
 key_bytes key = to_be_bytes w16 key.switch ++ (to_be_bytes w32 key.epoch ++ to_be_bytes w16 key.index)
 
 -- The bytes of a column.
-abbrev pub spelling : ColumnData → List ℕ
-spelling c = marks ++ (dims_bytes c.dims ++ (key_bytes c.key ++ flat_map bucket_bytes c.buckets))
+abbrev pub spelling : Column → List ℕ
+spelling c = marks ++ (dims_bytes c.dims ++ (key_bytes c.key ++ flat_map bucket_bytes c.cells.buckets))
 
 -- The length of a spelling by its rows: 20 to 62 bytes.
 abbrev pub spelling_len : ℕ → ℕ
@@ -79,8 +74,8 @@ abbrev pub zeros : List Bucket
 zeros = replicate 8 zero_bucket
 
 -- The column of a key, dimensions and eight buckets, of which those past the rows don't count.
-abbrev pub shown : Key → Dims → List Bucket → ColumnData
-shown key dims kept = record { key = key; dims = dims; buckets = take dims.rows kept }
+abbrev pub shown : Key → Dims → List Bucket → Column
+shown key dims kept = record { key = key; dims = dims; cells = record { buckets = take dims.rows kept } }
 
 -- What the code keeps: a column, and zeros past its rows.
 pub record IsKept (key : Key) (dims : Dims) (kept : List Bucket) : Type 0 where

@@ -5,14 +5,15 @@ use Rattle.std.specs.List.{range_with_len}
 use Rattle.lg_model.specs.declared.column.Bucket.{Bucket}
 use Rattle.sketchlet_wire.specs.declared.fault.WireFault.{WireFault}
 use Rattle.sketchlet_wire.specs.declared.fault.WireFault.TheVariants.{Short, NotSketchlet, BadRows, BadWidth, BadIndex}
-use Rattle.sketchlet_wire.specs.Spelling.{ColumnData, spelling}
+use Rattle.lg_model.specs.Columns.{Column}
+use Rattle.sketchlet_wire.specs.Spelling.{spelling}
 use Rattle.sketchlet_wire.specs.Reading.{column_reading}
 
 abbrev pub worked_bucket : Bucket
 worked_bucket = record { bytes = 1500; delay = 20 }
 
-abbrev pub worked : ColumnData
-worked = record { key = record { switch = 1; epoch = 0; index = 0 }; dims = record { rows = 2; width = 1 }; buckets = worked_bucket ∷ worked_bucket ∷ [] }
+abbrev pub worked : Column
+worked = record { key = record { switch = 1; epoch = 0; index = 0 }; dims = record { rows = 2; width = 1 }; cells = record { buckets = worked_bucket ∷ worked_bucket ∷ [] } }
 
 -- Two rows with the sum 000005dc and the maximum 0014.
 abbrev pub two_rows : List ℕ
@@ -26,7 +27,7 @@ with_bytes version rows high_width width index = 76 ∷ 71 ∷ version ∷ rows 
 abbrev pub worked_bytes : List ℕ
 worked_bytes = with_bytes 1 2 0 1 0
 
-abbrev pub fault : WireFault → Result (ColumnData × ℕ) WireFault
+abbrev pub fault : WireFault → Result (Column × ℕ) WireFault
 fault f = Err f
 
 pub record WorkedBytes : Type 0 where

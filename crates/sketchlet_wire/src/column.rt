@@ -18,15 +18,16 @@ pub struct Column {
 }
 
 impl Model for Column {
-    ghost use Rattle.sketchlet_wire.specs.Spelling.{ColumnData, IsKept, shown, filled, filled_back};
+    ghost use Rattle.lg_model.specs.Columns as model;
+    ghost use Rattle.sketchlet_wire.specs.Spelling.{IsKept, shown, filled, filled_back};
 
-    ghost Value = { ColumnData };
+    ghost Value = { model.Column };
 
     ghost view = { λ c. shown c.key c.dims c.buckets };
 
     ghost invariant = { λ c. IsKept c.key c.dims c.buckets };
 
-    ghost inverse = { λ v. record { key = v.key; dims = v.dims; buckets = filled v.dims v.buckets } };
+    ghost inverse = { λ v. record { key = v.key; dims = v.dims; buckets = filled v.dims v.cells.buckets } };
 
     ghost inverse_ok = { λ a h i. record { key = a.key; dims = a.dims; buckets = filled_back a.key a.dims a.buckets h i } };
 }
@@ -79,7 +80,7 @@ impl Column {
     /// The bucket of a row, which is below the rows.
     pub fn bucket(&self, row: u8) -> Bucket
         requires { row < self.now.dims.rows }
-        ensures { result ≡ slice_index_or self.now.buckets row zero_bucket }
+        ensures { result ≡ slice_index_or self.now.cells.buckets row zero_bucket }
     {
         self.buckets[row as usize]
     }

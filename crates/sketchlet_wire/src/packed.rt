@@ -1,6 +1,7 @@
 //! The spelling of a column in an array.
 ghost use Rattle.std.specs.Prelude.{◌≡◌, ◌≤◌, ℕ, Ok, Err};
-ghost use Rattle.sketchlet_wire.specs.Spelling.{ColumnData, spelling_len};
+ghost use Rattle.lg_model.specs.Columns as model;
+ghost use Rattle.sketchlet_wire.specs.Spelling.{spelling_len};
 ghost use Rattle.sketchlet_wire.specs.Reading.{column_reading};
 ghost use Rattle.sketchlet_wire.specs.Packing.{packed_bytes, IsPacked};
 
@@ -42,7 +43,7 @@ impl Packed {
     pub fn column(&self) -> Result<(Column, usize), WireFault>
         requires { self.now.len ≤ 62 }
         // What packs a column is read as that column, to its last byte.
-        ensures only { (c : ColumnData) → IsPacked self.now c → result ≡ Ok (c, self.now.len) }
+        ensures only { (c : model.Column) → IsPacked self.now c → result ≡ Ok (c, self.now.len) }
         // Which column or which fault it is.
         ensures exact { result ≡ column_reading (packed_bytes self.now) }
     {

@@ -1,7 +1,8 @@
 //! Reading a column, field by field from left to right.
 ghost use Rattle.std.specs.Prelude.{ℕ, ◌≡◌, ◌<◌, ◌≤◌, ◌*◌, List, length, IfOk, Ok, ◌++◌, drop, take};
 ghost use Rattle.std.specs.Int.{w16, w32};
-ghost use Rattle.sketchlet_wire.specs.Spelling.{ColumnData, IsColumn, spelling, spelling_len, zeros, IsDims};
+ghost use Rattle.lg_model.specs.Columns as model;
+ghost use Rattle.sketchlet_wire.specs.Spelling.{IsColumn, spelling, spelling_len, zeros, IsDims};
 ghost use Rattle.sketchlet_wire.specs.Reading.{Gives, byte_at, number_at, mark_at, rows_at, width_at, index_at, buckets_at, buckets_from, bucket_from, marks_at, dims_at, key_at, column_at, column_reading};
 
 use crate::column::Column;
@@ -191,9 +192,9 @@ pub fn decode(bytes: &[u8]) -> Result<(Column, usize), WireFault>
     // What is read is spelled so.
     ensures found { IfOk result (λ x. IsColumn x.0 × (bytes.now ≡ spelling x.0 ++ drop x.1 bytes.now) × (x.1 ≡ spelling_len x.0.dims.rows)) }
     // What is spelled so is read, whatever follows.
-    ensures only { (c : ColumnData) (rest : List ℕ) → IsColumn c → bytes.now ≡ spelling c ++ rest → result ≡ Ok (c, spelling_len c.dims.rows) }
+    ensures only { (c : model.Column) (rest : List ℕ) → IsColumn c → bytes.now ≡ spelling c ++ rest → result ≡ Ok (c, spelling_len c.dims.rows) }
     // A spelling and nothing else is read to its end.
-    ensures whole { (c : ColumnData) → IsColumn c → bytes.now ≡ spelling c → result ≡ Ok (c, length bytes.now) }
+    ensures whole { (c : model.Column) → IsColumn c → bytes.now ≡ spelling c → result ≡ Ok (c, length bytes.now) }
     ensures inside { IfOk result (λ x. x.1 ≤ length bytes.now) }
     // Which fault it is.
     ensures exact { result ≡ column_reading bytes.now }

@@ -4,4 +4,4 @@ use Rattle.sketchlet_wire.specs.Spelling.{marks, dims_bytes, key_bytes, bucket_b
 use Rattle.sketchlet_wire.proofs.writing.encode.Given as goal
 
 abbrev pub invariant-loop-i : goal.invariant-loop-i
-invariant-loop-i l = (length l.out ≡ 62) × (length l.fn.out ≡ 62) × (l.out ≡ (marks ++ (dims_bytes l.column.dims ++ (key_bytes l.column.key ++ flat_map bucket_bytes (take l.i l.column.buckets)))) ++ drop (14 + 6 * l.i) l.fn.out)
+invariant-loop-i l = (length l.out ≡ 62) × (length l.fn.out ≡ 62) × (l.out ≡ (marks ++ (dims_bytes l.column.dims ++ (key_bytes l.column.key ++ flat_map bucket_bytes (take l.i l.column.cells.buckets)))) ++ drop (14 + 6 * l.i) l.fn.out)
