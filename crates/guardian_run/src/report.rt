@@ -9,7 +9,6 @@ ghost use Rattle.lg_model.specs.Answer.{with_column};
 ghost use Rattle.lg_model.specs.Report.{report as report_of};
 ghost use Rattle.sketchlet_wire.specs.Spelling.{ColumnData};
 ghost use Rattle.sketchlet_wire.specs.Packing.{IsPacked};
-ghost use Rattle.path_sim.specs.Parts.{IsOf};
 ghost use Rattle.path_sim.specs.Arrived.{HaveArrived};
 ghost use Rattle.guardian_run.specs.Outputs.{book_of};
 
@@ -41,7 +40,7 @@ fn keep_arrived(
     book: &mut Book,
 ) -> Result<(), Memory>
     requires shape { book.old.shape ≡ scenario.now.shape }
-    requires arrived { Matched (IsOf scenario.now) arrived.now (brought scenario.now (picked scenario.now) host_at) }
+    requires arrived { Matched IsPacked arrived.now (brought scenario.now (picked scenario.now) host_at) }
     ensures shape { IfOk result (λ _. book.new.shape ≡ book.old.shape) }
     ensures content { IfOk result (λ _. book.new.content ≡ fold with_column book.old.content (brought scenario.now (picked scenario.now) host_at)) }
 {

@@ -18,7 +18,8 @@ use Rattle.lg_model.proofs.Arrivals.{arrived_start, held_start, deliveries_appen
 use Rattle.lg_model.proofs.Allowing.{allowed}
 use Rattle.sketchlet_wire.specs.declared.packed.Packed.{Packed}
 use Rattle.path_sim.specs.declared.traffic.Traffic.{Traffic}
-use Rattle.path_sim.specs.Parts.{carried_are, IsBefore, IsNamed, IsOf}
+use Rattle.path_sim.specs.Parts.{carried_are, IsBefore, IsNamed}
+use Rattle.sketchlet_wire.specs.Packing.{IsPacked}
 use Rattle.path_sim.specs.Holding.{AreHeld, IsInside}
 use Rattle.path_sim.specs.Moving.{IsTraffic, HasEnded}
 use Rattle.path_sim.specs.Arrived.{HaveArrived}
@@ -31,11 +32,11 @@ started w t twins inboxes twins_is fresh inboxes_is empty carried held_is =
     let at_start : AreTwins w 0 [] [] twins = twins_start w twins (ap length fresh ∙ length-replicate (length w.switches) (new_twins w.shape))
     (subst (All (λ (x : TwinsState). x ≡ new_twins w.shape)) (sym fresh) (All-replicate (λ (x : TwinsState). x ≡ new_twins w.shape) (length w.switches) (new_twins w.shape) refl)) in
     let long : length inboxes ≡ length w.hosts = ap length empty ∙ length-replicate (length w.hosts) [] in
-    let nothing : AreDelivered (IsOf w) [] inboxes = record {
+    let nothing : AreDelivered IsPacked [] inboxes = record {
       each = λ h low.
           let inside : h < length w.hosts = omega arith in
           let row : slice_index_or inboxes h [] ≡ [] = ap (λ (xs : List (List Packed)). slice_index_or xs h []) empty ∙ get_or-replicate (length w.hosts) h [] [] inside in
-          subst (λ (xs : List Packed). Matched (IsOf w) xs []) (sym row) tt;
+          subst (λ (xs : List Packed). Matched IsPacked xs []) (sym row) tt;
     } in
     record {
       before = rw carried (All-nil (IsBefore 0));
@@ -64,7 +65,7 @@ ended_all {S} picks w n k t ps qs all number is run =
 
 -- and what is held has arrived
 pub arrived_all : (w : Scenario) (t : Traffic) (inboxes final : List (List Packed)) → HasEnded w t → final ≡ inboxes → length inboxes ≡ length t.inboxes.items →
-    ((v : Scenario) (ds hs : List (ℕ × Column)) → AreHeld v hs t.held.items → AreDelivered (IsOf v) ds t.inboxes.items → AreDelivered (IsOf v) (ds ++ reverse hs) inboxes) →
+    ((v : Scenario) (ds hs : List (ℕ × Column)) → AreHeld v hs t.held.items → AreDelivered IsPacked ds t.inboxes.items → AreDelivered IsPacked (ds ++ reverse hs) inboxes) →
     HaveArrived w (carried_are t.carried.items) final
 arrived_all w t inboxes final ended same many came =
     let cs = carried_are t.carried.items in
@@ -74,11 +75,11 @@ arrived_all w t inboxes final ended same many came =
     let until : arrivals_until w n ≡ flat_map (arrivals_at w) (enumerate_from 0 w.steps) = ap (λ xs. flat_map (arrivals_at w) (enumerate_from 0 xs)) (take_all n w.steps (omega arith)) in
     let before : arrived_to w n (length (packets w)) ≡ arrivals_until w n = arrived_start w n (length (packets w)) (omega arith) number in
     let waits : held_to w n (length (packets w)) ≡ held w n = held_start w n (length (packets w)) (omega arith) number in
-    let all : AreDelivered (IsOf w) (deliveries w cs (arrivals_until w n) ++ reverse (deliveries w cs (held w n))) inboxes =
+    let all : AreDelivered IsPacked (deliveries w cs (arrivals_until w n) ++ reverse (deliveries w cs (held w n))) inboxes =
     came w (deliveries w cs (arrivals_until w n)) (deliveries w cs (held w n)) (rw waits at is.held) (rw before at is.arrived) in
     let joined : deliveries w cs (arrivals_until w n) ++ reverse (deliveries w cs (held w n)) ≡ deliveries w cs (arrivals w) =
     ap (λ ds. deliveries w cs (arrivals_until w n) ++ ds) (sym (deliveries_reverse w cs (held w n)))
     ∙ sym (deliveries_append w cs (arrivals_until w n) (reverse (held w n)))
     ∙ ap (λ (ks : List ℕ). deliveries w cs (ks ++ reverse (held w n))) until in
-    let whole : AreDelivered (IsOf w) (deliveries w cs (arrivals w)) final = rw same (subst (λ (ds : List (ℕ × Column)). AreDelivered (IsOf w) ds inboxes) joined all) in
+    let whole : AreDelivered IsPacked (deliveries w cs (arrivals w)) final = rw same (subst (λ (ds : List (ℕ × Column)). AreDelivered IsPacked ds inboxes) joined all) in
     record { hosts = ap length same ∙ many ∙ is.hosts; each = whole.each }

@@ -28,7 +28,7 @@ use Rattle.sketchlet_wire.specs.Packing.{IsPacked}
 use Rattle.sketchlet_wire.specs.Spelling.{ColumnData}
 use Rattle.sketchlet_wire.specs.Carried.{column_data, dims_of}
 use Rattle.path_sim.specs.declared.carry.Carry.{Carry}
-use Rattle.path_sim.specs.Parts.{carry_is, carried_are, IsBefore, IsOf, IsCargo}
+use Rattle.path_sim.specs.Parts.{carry_is, carried_are, IsBefore, IsCargo}
 
 pub offer_is : (w : Scenario) (m : Meeting) (ms : List Meeting) (cs : List model.Carry) (ts : List TwinsState) (d : TwinsState) → AreTwins w m.step_at ms cs ts → m.switch_at < length ts →
     offer_of (slice_index_or ts m.switch_at d) ≡ offer_at w cs m
@@ -98,7 +98,7 @@ before_more n cs all = All-weaker (IsBefore n) (IsBefore (n + 1)) (λ c low. ome
 -- a packet that carries nothing has no cargo
 pub no_cargo : (w : Scenario) (cs : List model.Carry) (n : ℕ) (p : Option Packed) → model.carries cs n ≡ false → p ≡ None → IsCargo w cs n p
 no_cargo w cs n p none empty =
-    subst (λ (o : Option Packed). MatchedOption (IsOf w) o (cargo w cs n)) (sym empty) (subst (MatchedOption (IsOf w) None) (sym (cargo_none w cs n none)) tt)
+    subst (λ (o : Option Packed). MatchedOption IsPacked o (cargo w cs n)) (sym empty) (subst (MatchedOption IsPacked None) (sym (cargo_none w cs n none)) tt)
 
 -- and then the column that the switch froze last
 pub new_cargo : (w : Scenario) (m : Meeting) (ms : List Meeting) (cs cs' : List model.Carry) (ts : List TwinsState) (d : TwinsState) (j name epoch : ℕ) (dims : Dims) (table : List (List Bucket)) (p : Packed) →
@@ -112,7 +112,7 @@ new_cargo w m ms cs cs' ts d j name epoch dims table p all inside some none push
     let same : packed_is ≡ column_data (dims_of w.shape) col =
     λ i. record { key = record { switch = name_is i; epoch = epoch_is i - 1; index = j }; dims = dims_is i; buckets = buckets i } in
     let there : cargo w cs' m.number ≡ Some col = ap (λ xs. cargo w xs m.number) pushed ∙ cargo_new w cs m j none in
-    subst (MatchedOption (IsOf w) (Some p)) (sym there) (subst (IsPacked p) same is)
+    subst (MatchedOption IsPacked (Some p)) (sym there) (subst (IsPacked p) same is)
 
 -- the count of columns put out is below that of all that are carried
 pub put_fits : (w : Scenario) (m : Meeting) (ms : List Meeting) (items : List Carry) (ts : List TwinsState) (d : TwinsState) → AreTwins w m.step_at ms (carried_are items) ts → m.switch_at < length ts →
@@ -134,13 +134,13 @@ pub in_hand : (w : Scenario) (cs : List model.Carry) (n : ℕ) (p : Packed) → 
 in_hand w cs n p h =
     (elim (model.carries cs n) as (λ (b : Bool). model.carries cs n ≡ b → b ≡ true) [
       | true ↦ λ q. refl
-      | false ↦ λ q. absurd (subst (MatchedOption (IsOf w) (Some p)) (cargo_none w cs n q) h)
+      | false ↦ λ q. absurd (subst (MatchedOption IsPacked (Some p)) (cargo_none w cs n q) h)
     ]) refl
 
 pub empty_hand : (w : Scenario) (cs : List model.Carry) (n : ℕ) → IsCargo w cs n None → model.carries cs n ≡ false
 empty_hand w cs n h =
     (elim (model.carries cs n) as (λ (b : Bool). model.carries cs n ≡ b → b ≡ false) [
-      | true ↦ λ q. absurd (let c = some_found n cs q in subst (λ (o : Option model.Carry). MatchedOption (IsOf w) None (option_map (column_of w) o)) c.1 h)
+      | true ↦ λ q. absurd (let c = some_found n cs q in subst (λ (o : Option model.Carry). MatchedOption IsPacked None (option_map (column_of w) o)) c.1 h)
       | false ↦ λ q. refl
     ]) refl
 

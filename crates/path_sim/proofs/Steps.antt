@@ -19,7 +19,8 @@ use Rattle.lg_model.proofs.Twinning.{twins_stay, twins_end, twins_end_all}
 use Rattle.lg_model.proofs.Arrivals.{arrived_start, arrived_end, held_start, held_end, arrivals_released, held_released, deliveries_append, deliveries_reverse}
 use Rattle.sketchlet_wire.specs.declared.packed.Packed.{Packed}
 use Rattle.path_sim.specs.declared.traffic.Traffic.{Traffic}
-use Rattle.path_sim.specs.Parts.{carried_are, step_in, IsOf}
+use Rattle.path_sim.specs.Parts.{carried_are, step_in}
+use Rattle.sketchlet_wire.specs.Packing.{IsPacked}
 use Rattle.path_sim.specs.Holding.{AreHeld, IsInside}
 use Rattle.path_sim.specs.Moving.{IsTraffic}
 
@@ -102,7 +103,7 @@ next_step w n k old new h number no_release is carried inboxes held_is twins =
 -- a release
 pub released_step : (w : Scenario) (n k : ℕ) (old new : Traffic) (inboxes' : List (List Packed)) → n < length w.steps → k ≡ length (packets_until w n) → step_in w n ≡ steps.Release → IsTraffic w n k old →
     new.carried.items ≡ old.carried.items → new.twins.items ≡ old.twins.items → new.inboxes.items ≡ inboxes' → length inboxes' ≡ length old.inboxes.items → new.held.items ≡ [] →
-    ((v : Scenario) (ds hs : List (ℕ × Column)) → AreHeld v hs old.held.items → AreDelivered (IsOf v) ds old.inboxes.items → AreDelivered (IsOf v) (ds ++ reverse hs) inboxes') → IsTraffic w (n + 1) k new
+    ((v : Scenario) (ds hs : List (ℕ × Column)) → AreHeld v hs old.held.items → AreDelivered IsPacked ds old.inboxes.items → AreDelivered IsPacked (ds ++ reverse hs) inboxes') → IsTraffic w (n + 1) k new
 released_step w n k old new inboxes' h number step is carried twins inboxes hosts empty came =
     let cs = carried_are old.carried.items in
     let releases : is_release (step_in w n) ≡ true = ap is_release step in
@@ -113,7 +114,7 @@ released_step w n k old new inboxes' h number step is carried twins inboxes host
     let waits : held_to w n k ≡ held w n = held_start w n k (omega arith) number in
     let after : arrived_to w (n + 1) k ≡ arrivals_until w n ++ reverse (held w n) = arrived_start w (n + 1) k (omega arith) number' ∙ arrivals_released w n h step in
     let none : held_to w (n + 1) k ≡ [] = held_start w (n + 1) k (omega arith) number' ∙ held_released w n h releases in
-    let all : AreDelivered (IsOf w) (deliveries w cs (arrivals_until w n) ++ reverse (deliveries w cs (held w n))) inboxes' =
+    let all : AreDelivered IsPacked (deliveries w cs (arrivals_until w n) ++ reverse (deliveries w cs (held w n))) inboxes' =
     came w (deliveries w cs (arrivals_until w n)) (deliveries w cs (held w n)) (rw waits at is.held) (rw before at is.arrived) in
     let joined : deliveries w cs (arrived_to w (n + 1) k) ≡ deliveries w cs (arrivals_until w n) ++ reverse (deliveries w cs (held w n)) =
     ap (deliveries w cs) after ∙ deliveries_append w cs (arrivals_until w n) (reverse (held w n)) ∙ ap (λ ds. deliveries w cs (arrivals_until w n) ++ ds) (deliveries_reverse w cs (held w n)) in

@@ -5,9 +5,9 @@ use Rattle.lg_model.specs.Matching.{Matched}
 use Rattle.lg_model.specs.Carrying as model
 use Rattle.lg_model.specs.Arriving.{brought}
 use Rattle.sketchlet_wire.specs.declared.packed.Packed.{Packed}
-use Rattle.path_sim.specs.Parts.{IsOf}
+use Rattle.sketchlet_wire.specs.Packing.{IsPacked}
 
 -- Each host has the spellings of the brought columns, in order of arrival, for that carry list.
 pub record HaveArrived (w : Scenario) (cs : List model.Carry) (inboxes : List (List Packed)) : Type 0 where
   pub hosts : length inboxes ≡ length w.hosts
-  pub each : (h : ℕ) → h < length inboxes → Matched (IsOf w) (slice_index_or inboxes h []) (brought w cs h)
+  pub each : (h : ℕ) → h < length inboxes → Matched IsPacked (slice_index_or inboxes h []) (brought w cs h)

@@ -13,7 +13,6 @@ use Rattle.lg_model.specs.Columns.{Column}
 use Rattle.lg_model.specs.Midway.{packets_to}
 use Rattle.sketchlet_wire.specs.declared.packed.Packed.{Packed}
 use Rattle.sketchlet_wire.specs.Packing.{IsPacked}
-use Rattle.sketchlet_wire.specs.Carried.{column_data, dims_of}
 use Rattle.path_sim.specs.declared.meeting.Visit.{Visit}
 use Rattle.path_sim.specs.declared.carry.Carry.{Carry}
 
@@ -26,13 +25,9 @@ carry_is c = record { packet = c.packet; hop = c.hop; switch_at = c.switch_at; e
 abbrev pub carried_are : List Carry → List model.Carry
 carried_are cs = map carry_is cs
 
--- The packed bytes are those of that column, of a sketch of the scenario's shape.
-abbrev pub IsOf : Scenario → Packed → Column → Type 0
-IsOf w p c = IsPacked p (column_data (dims_of w.shape) c)
-
 -- What a packet carries is its cargo.
 abbrev pub IsCargo : Scenario → List model.Carry → ℕ → Option Packed → Type 0
-IsCargo w cs n p = MatchedOption (IsOf w) p (cargo w cs n)
+IsCargo w cs n p = MatchedOption IsPacked p (cargo w cs n)
 
 -- 1 where there is something, else 0.
 abbrev pub some_count : {X : Type 0} → Option X → ℕ

@@ -2,7 +2,8 @@ use Rattle.std.proofs.Common.{◌≡◌, ◌<◌, ◌∙◌, refl, sym, ap, subs
 use Rattle.lg_model.specs.declared.scenario.Step.TheVariants as steps
 use Rattle.lg_model.specs.Midway.{AreDelivered}
 use Rattle.sketchlet_wire.specs.declared.packed.Packed.{Packed}
-use Rattle.path_sim.specs.Parts.{step_in, IsOf}
+use Rattle.path_sim.specs.Parts.{step_in}
+use Rattle.sketchlet_wire.specs.Packing.{IsPacked}
 use Rattle.path_sim.proofs.Onward.{refill}
 use Rattle.path_sim.proofs.Steps.{step_known, step_fits, epoch_fits, ended_one, ended_every, released_step, quiet_number}
 use Rattle.path_sim.proofs.stepping.step_once.Goals as goal
@@ -76,4 +77,4 @@ returns-in_ok-release-in-Release-clause-traffic g c =
     let inboxes = refill old.inboxes.len old.inboxes.items c.release.new.inboxes (c.release.auto.inboxes ∙ c.deref_mut-in-Release.ensures.len) in
     let many : length c.release.new.inboxes ≡ length old.inboxes.items = c.release.auto.inboxes ∙ ap length c.deref_mut-in-Release.ensures.value in
     released_step w n c.args.number old _ c.release.new.inboxes c.requires.inside c.requires.number step c.requires.traffic refl refl inboxes many c.in_ok-release-in-Release.ensures.empty
-    (λ v ds hs waits came. c.in_ok-release-in-Release.ensures.arrived v ds hs waits (subst (λ (xs : List (List Packed)). AreDelivered (IsOf v) ds xs) (sym c.deref_mut-in-Release.ensures.value) came))
+    (λ v ds hs waits came. c.in_ok-release-in-Release.ensures.arrived v ds hs waits (subst (λ (xs : List (List Packed)). AreDelivered IsPacked ds xs) (sym c.deref_mut-in-Release.ensures.value) came))
