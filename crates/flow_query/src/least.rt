@@ -5,6 +5,7 @@ ghost use Rattle.lg_model.specs.declared.limits.TheConstants.{LAST_BYTES, LAST_D
 ghost use Rattle.lg_model.specs.Answer.{value_of};
 ghost use Rattle.flow_query.specs.Least.{lower, known_of};
 
+use lg_model::limits::{LAST_BYTES, LAST_DELAY};
 use lg_model::{Answer, Bucket, Value};
 
 /// How many rows are known so far, and the least counters of their buckets.
@@ -39,7 +40,7 @@ fn value(limit: u32, least: u32) -> Value
 
 impl Known {
     /// No row.
-    pub(crate) fn none() -> Known
+    pub(crate) fn new() -> Known
         ensures { result ≡ known_of [] }
     {
         Known {
@@ -74,8 +75,8 @@ impl Known {
             },
             Some(least) => Answer {
                 rows_known: self.rows,
-                bytes: value(u32::MAX, least.bytes),
-                delay: value(u32::from(u16::MAX), u32::from(least.delay)),
+                bytes: value(LAST_BYTES, least.bytes),
+                delay: value(u32::from(LAST_DELAY), u32::from(least.delay)),
             },
         }
     }

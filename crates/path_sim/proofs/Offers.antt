@@ -17,7 +17,7 @@ use Rattle.lg_model.specs.Trace.{Meeting, ended_before, observation}
 use Rattle.lg_model.specs.Carrying as model
 use Rattle.lg_model.specs.Carrying.{Offer, offer_at, carry_at, hops_left, is_offered, is_out, with_choice}
 use Rattle.lg_model.specs.Arriving.{cargo, column_of}
-use Rattle.lg_model.specs.Columns.{Column}
+use Rattle.lg_model.specs.Columns.{Column, dims_of}
 use Rattle.lg_model.specs.Offering.{Picks, IsPick, IsOffered, Offering, offering}
 use Rattle.lg_model.specs.TwinsState.{TwinsState, AreTwins, IsTwinsState, offer_of, with_put, with_seen}
 use Rattle.lg_model.specs.Matching.{MatchedOption}
@@ -25,10 +25,8 @@ use Rattle.lg_model.proofs.Twinning.{twins_put, twins_see}
 use Rattle.lg_model.proofs.Cargo.{cargo_none, cargo_new, buckets_are}
 use Rattle.sketchlet_wire.specs.declared.packed.Packed.{Packed}
 use Rattle.sketchlet_wire.specs.Packing.{IsPacked}
-use Rattle.sketchlet_wire.specs.Spelling.{ColumnData}
-use Rattle.sketchlet_wire.specs.Carried.{column_data, dims_of}
 use Rattle.path_sim.specs.declared.carry.Carry.{Carry}
-use Rattle.path_sim.specs.Parts.{carry_is, carried_are, IsBefore, IsCargo}
+use Rattle.path_sim.specs.Parts.{frozen_column, carry_is, carried_are, IsBefore, IsCargo}
 
 pub offer_is : (w : Scenario) (m : Meeting) (ms : List Meeting) (cs : List model.Carry) (ts : List TwinsState) (d : TwinsState) → AreTwins w m.step_at ms cs ts → m.switch_at < length ts →
     offer_of (slice_index_or ts m.switch_at d) ≡ offer_at w cs m
@@ -101,16 +99,20 @@ no_cargo w cs n p none empty =
     subst (λ (o : Option Packed). MatchedOption IsPacked o (cargo w cs n)) (sym empty) (subst (MatchedOption IsPacked None) (sym (cargo_none w cs n none)) tt)
 
 -- and then the column that the switch froze last
-pub new_cargo : (w : Scenario) (m : Meeting) (ms : List Meeting) (cs cs' : List model.Carry) (ts : List TwinsState) (d : TwinsState) (j name epoch : ℕ) (dims : Dims) (table : List (List Bucket)) (p : Packed) →
-    AreTwins w m.step_at ms cs ts → m.switch_at < length ts → 0 < ended_before w m → model.carries cs m.number ≡ false → cs' ≡ cs ++ carry_at w m j ∷ [] →
-    name ≡ slice_index w.switches m.switch_at → epoch ≡ ended_before w m → dims ≡ dims_of w.shape → table ≡ (slice_index_or ts m.switch_at d).frozen →
-    IsPacked p (record { key = record { switch = name; epoch = epoch - 1; index = j }; dims = dims; buckets = column_at table j }) → IsCargo w cs' m.number (Some p)
-new_cargo w m ms cs cs' ts d j name epoch dims table p all inside some none pushed name_is epoch_is dims_is table_is is =
-    let packed_is : ColumnData = record { key = record { switch = name; epoch = epoch - 1; index = j }; dims = dims; buckets = column_at table j } in
+pub new_cargo : (w : Scenario) (m : Meeting) (ms : List Meeting) (cs cs' : List model.Carry) (ts : List TwinsState) (d : TwinsState) (j name : ℕ) (p : Packed) →
+    AreTwins w m.step_at ms cs ts → m.switch_at < length ts → 0 < ended_before w m → model.carries cs m.number ≡ false →
+    cs' ≡ cs ++ carry_at w m j ∷ [] → name ≡ slice_index w.switches m.switch_at →
+    IsPacked p (frozen_column (slice_index_or ts m.switch_at d) name j) → IsCargo w cs' m.number (Some p)
+new_cargo w m ms cs cs' ts d j name p all inside some none pushed name_is is =
+    let t : TwinsState = slice_index_or ts m.switch_at d in
+    let twins : IsTwinsState w m.step_at ms cs m.switch_at t = all.each m.switch_at d inside in
     let col : Column = column_of w (carry_at w m j) in
-    let buckets : column_at table j ≡ col.buckets = ap (λ (t : List (List Bucket)). column_at t j) table_is ∙ buckets_are w m ms cs ts d j all inside some in
-    let same : packed_is ≡ column_data (dims_of w.shape) col =
-    λ i. record { key = record { switch = name_is i; epoch = epoch_is i - 1; index = j }; dims = dims_is i; buckets = buckets i } in
+    let buckets : column_at t.frozen j ≡ col.cells.buckets = buckets_are w m ms cs ts d j all inside some in
+    let same : frozen_column t name j ≡ col = λ i. record {
+      key = record { switch = name_is i; epoch = twins.epoch i - 1; index = j };
+      dims = dims_of (twins.shape i);
+      cells = record { buckets = buckets i };
+    } in
     let there : cargo w cs' m.number ≡ Some col = ap (λ xs. cargo w xs m.number) pushed ∙ cargo_new w cs m j none in
     subst (MatchedOption IsPacked (Some p)) (sym there) (subst (IsPacked p) same is)
 

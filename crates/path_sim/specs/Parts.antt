@@ -1,5 +1,5 @@
 -- What the network handles, as the definitions speak of it.
-use Rattle.std.specs.Prelude.{◌≡◌, ℕ, ◌<◌, List, ◌++◌, map, take, slice_index, slice_index_or, Option, None, Some}
+use Rattle.std.specs.Prelude.{◌≡◌, ℕ, ◌<◌, ◌-◌, List, ◌++◌, map, take, slice_index, slice_index_or, Option, None, Some}
 use Rattle.lg_model.specs.declared.scenario.Flow.{Flow}
 use Rattle.lg_model.specs.declared.scenario.Step.{Step}
 use Rattle.lg_model.specs.declared.scenario.Step.TheVariants as steps
@@ -9,7 +9,9 @@ use Rattle.lg_model.specs.Matching.{MatchedOption}
 use Rattle.lg_model.specs.Trace.{Meeting, meetings_in, meetings_of}
 use Rattle.lg_model.specs.Carrying as model
 use Rattle.lg_model.specs.Arriving.{packet_at, cargo}
-use Rattle.lg_model.specs.Columns.{Column}
+use Rattle.lg_model.specs.Columns.{Column, dims_of}
+use Rattle.lg_model.specs.Sketch.{column_at}
+use Rattle.lg_model.specs.TwinsState.{TwinsState}
 use Rattle.lg_model.specs.Midway.{packets_to}
 use Rattle.sketchlet_wire.specs.declared.packed.Packed.{Packed}
 use Rattle.sketchlet_wire.specs.Packing.{IsPacked}
@@ -24,6 +26,14 @@ carry_is c = record { packet = c.packet; hop = c.hop; switch_at = c.switch_at; e
 
 abbrev pub carried_are : List Carry → List model.Carry
 carried_are cs = map carry_is cs
+
+-- The column at an index of the sketch that these twins froze last, under the name of their switch.
+abbrev pub frozen_column : TwinsState → (switch index : ℕ) → Column
+frozen_column t switch index = record {
+  key = record { switch = switch; epoch = t.epoch - 1; index = index };
+  dims = dims_of t.shape;
+  cells = record { buckets = column_at t.frozen index };
+}
 
 -- What a packet carries is its cargo.
 abbrev pub IsCargo : Scenario → List model.Carry → ℕ → Option Packed → Type 0

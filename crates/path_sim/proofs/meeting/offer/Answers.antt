@@ -7,7 +7,6 @@ use Rattle.lg_model.specs.Trace.{ended_before}
 use Rattle.lg_model.specs.Carrying.{Offer, carry_at, hops_left}
 use Rattle.lg_model.specs.Offering.{IsLawful}
 use Rattle.lg_model.specs.TwinsState.{TwinsState, IsTwinsState}
-use Rattle.sketchlet_wire.specs.Carried.{dims_of}
 use Rattle.path_sim.specs.Parts.{meeting_is, carried_are, meetings_to, IsNamed}
 use Rattle.path_sim.proofs.Offers.{offer_is, carried_push, put_all, offer_yes, no_cargo, new_cargo}
 use Rattle.path_sim.proofs.meeting.offer.Goals as goal
@@ -52,8 +51,8 @@ returns-in_ok-push-in-Some-clause-cargo g c =
     let epoch : c.epoch.result ≡ ended_before w m = c.epoch.ensures ∙ is.epoch in
     let pushed : carried_are c.push.new.self.items ≡ cs ++ carry_at w m c.in-Some.index ∷ [] =
     carried_push w m c.args.carried.now.items c.push.new.self.items _ c.epoch.result c.in-Some.index c.in_ok-push-in-Some.ensures.items epoch refl in
-    new_cargo w m (meetings_to w m.number m.hop) cs (carried_are c.push.new.self.items) ts t c.in-Some.index c.args.m.now.switch old.epoch (dims_of old.shape) old.frozen c.pack-packed.result
-    c.requires.twins c.requires.switch c.requires.epoch c.requires.none pushed c.requires.name is.epoch (ap dims_of is.shape) refl c.pack-packed.ensures
+    new_cargo w m (meetings_to w m.number m.hop) cs (carried_are c.push.new.self.items) ts t c.in-Some.index c.args.m.now.switch c.pack-packed.result
+    c.requires.twins c.requires.switch c.requires.epoch c.requires.none pushed c.requires.name c.pack-packed.ensures
 
 pub returns-in_ok-push-in-Some-clause-names : goal.returns-in_ok-push-in-Some-clause-names
 returns-in_ok-push-in-Some-clause-names g c =
