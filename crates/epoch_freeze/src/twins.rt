@@ -1,5 +1,6 @@
 //! The sketches of a switch and its epochs (docs/DEFINITIONS.md, Twins).
 ghost use Rattle.std.specs.Prelude.{◌≡◌, ◌<◌, ◌≤◌, ◌-◌, ◌^◌, length, slice_index, All, IfOk, IfSome, IfNone, MatchOption};
+ghost use Rattle.lg_model.specs.declared.limits.TheConstants.{MOST_ENDS};
 ghost use Rattle.lg_model.specs.Placing.{IsShape};
 ghost use Rattle.lg_model.specs.Sketch.{raise};
 ghost use Rattle.lg_model.specs.TwinsState.{TwinsState, new_twins, with_put, with_end};
@@ -65,7 +66,7 @@ impl Twins {
     /// Ends the epoch: the current sketch becomes the frozen one, the new current one is of zeros, the epoch rises by
     /// one, and nothing of the frozen sketch is put out. The epoch is below 65,535.
     pub fn end(&mut self)
-        requires { self.old.epoch < 65535 }
+        requires { self.old.epoch < MOST_ENDS }
         ensures { self.new ≡ with_end self.old }
     {
         mem::swap(&mut self.current, &mut self.frozen);
