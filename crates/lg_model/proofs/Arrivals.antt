@@ -269,7 +269,7 @@ all_held_below p k a (x ∷ ps) h =
 pub held_below : (w : Scenario) (n k : ℕ) → length (packets_until w n) ≤ k → All (λ i. i < k) (held w n)
 held_below w n k h = all_held_below (is_held w n) k 0 (packets_until w n) (omega arith)
 
-until_more : (w : Scenario) (n : ℕ) → n < length w.steps → length (packets_until w (n + 1)) ≡ length (packets_until w n) + length (packets_of w.flows (n, step_at w n))
+pub until_more : (w : Scenario) (n : ℕ) → n < length w.steps → length (packets_until w (n + 1)) ≡ length (packets_until w n) + length (packets_of w.flows (n, step_at w n))
 until_more w n h = ap length (packets_more w n h) ∙ length-append (packets_until w n) (packets_of w.flows (n, step_at w n))
 
 pub arrivals_below : (w : Scenario) (n k : ℕ) → n ≤ length w.steps → length (packets_until w n) ≤ k → All (λ i. i < k) (arrivals_until w n)

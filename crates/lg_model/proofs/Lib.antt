@@ -11,3 +11,4 @@ pub mod Allowing
 pub mod Pairing
 pub mod Arrivals
 pub mod Cargo
+pub mod ArrivalCounts

@@ -8,6 +8,7 @@ pub mod Bound
 pub mod Carrying
 pub mod Arriving
 pub mod Midway
+pub mod Counting
 pub mod TwinsState
 pub mod Offering
 pub mod Runs

@@ -2,6 +2,7 @@
 ghost use Rattle.lg_model.specs.Bound.{LawOfTheBound, LawOfTheLimits, LawOfTheAnswer};
 ghost use Rattle.lg_model.specs.Settled.{LawOfTheFrozen};
 ghost use Rattle.lg_model.specs.Carrying.{LawOfThePickedList};
+ghost use Rattle.lg_model.specs.Counting.{LawOfTheArrivals};
 ghost use Rattle.lg_model.specs.Worked.{WorkedScenarios};
 
 /// No counter of a flow is below its true value, up to the counter's last value
@@ -29,6 +30,11 @@ pub fn frozen_is_settled()
 /// list).
 pub fn picked_lists_are_allowed()
     ensures { LawOfThePickedList }
+{}
+
+/// At most twice as many columns come to a host as there are packets (docs/DEFINITIONS.md, Brought columns).
+pub fn arrivals_are_few()
+    ensures { LawOfTheArrivals }
 {}
 
 /// The definitions, worked out by computation at scenarios with known answers.

@@ -40,7 +40,6 @@ pub const MOST_ASKS: usize = 10_000;
 /// The most letters of a host's link.
 pub const MOST_LETTERS: usize = 4_096;
 
-
 /// The most bytes of a sketchlet, which is one of [`MOST_ROWS`] rows.
 pub const MOST_SKETCHLET_BYTES: usize = 62;
 
