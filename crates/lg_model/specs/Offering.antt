@@ -1,7 +1,8 @@
 -- A network whose pickers are told by a relation.
-use Rattle.std.specs.Prelude.{◌≡◌, ℕ, ◌<◌, Bool, true, false, List, slice_set, slice_get, Option, Some, None, IfSome, IfNone}
+use Rattle.std.specs.Prelude.{◌≡◌, ℕ, ◌<◌, Bool, true, false, List, [], slice_set, slice_get, Option, Some, None, IfSome, IfNone}
 use Rattle.lg_model.specs.Scenario.{Scenario}
-use Rattle.lg_model.specs.Trace.{Meeting}
+use Rattle.lg_model.specs.Trace.{Meeting, meetings}
+use Rattle.lg_model.specs.Runs.{Runs}
 use Rattle.lg_model.specs.Carrying.{Carry, Offer, hops_left, is_offered, offer_at, with_choice}
 
 -- What a picker may answer: the picker before, the hops left, the offer, the answer, the picker after.
@@ -36,3 +37,7 @@ pub record IsOffered {S : Type 0} (picks : Picks S) (w : Scenario) (m : Meeting)
 pub record IsPick {S : Type 0} (picks : Picks S) (w : Scenario) (m : Meeting) (old new : Offering S) : Type 0 where
   pub offers : is_offered w old.carried m ≡ true → IsOffered picks w m old new
   pub passes : is_offered w old.carried m ≡ false → new ≡ old
+
+-- Over all meetings the pickers went from the first list to the second, and their answers gave this carry list.
+abbrev pub HaveChosen : {S : Type 0} → Picks S → Scenario → (old new : List S) → List Carry → Type 0
+HaveChosen picks w old new cs = Runs (IsPick picks w) (meetings w) (offering old []) (offering new cs)

@@ -10,12 +10,14 @@ use Rattle.lg_model.specs.Matching.{Matched}
 use Rattle.lg_model.specs.Offering.{Picks, IsPick, offering}
 use Rattle.lg_model.specs.Runs.{Runs}
 use Rattle.lg_model.specs.TwinsState.{TwinsState, AreTwins, new_twins}
-use Rattle.lg_model.specs.Arriving.{arrivals, arrivals_at, arrivals_until, held, deliveries}
+use Rattle.lg_model.specs.Arriving.{brought, arrivals, arrivals_at, arrivals_until, held, deliveries}
 use Rattle.lg_model.specs.Columns.{Column}
 use Rattle.lg_model.specs.Midway.{packets_to, arrived_to, held_to, AreDelivered}
 use Rattle.lg_model.proofs.Twinning.{twins_start}
 use Rattle.lg_model.proofs.Arrivals.{arrived_start, held_start, deliveries_append, deliveries_reverse}
 use Rattle.lg_model.proofs.Allowing.{allowed}
+use Rattle.lg_model.proofs.ArrivalCounts.{few_brought}
+use Rattle.lg_model.proofs.Pairing.{matched_length}
 use Rattle.sketchlet_wire.specs.declared.packed.Packed.{Packed}
 use Rattle.path_sim.specs.declared.traffic.Traffic.{Traffic}
 use Rattle.path_sim.specs.Parts.{carried_are, IsBefore, IsNamed}
@@ -82,4 +84,8 @@ arrived_all w t inboxes final ended same many came =
     ∙ sym (deliveries_append w cs (arrivals_until w n) (reverse (held w n)))
     ∙ ap (λ (ks : List ℕ). deliveries w cs (ks ++ reverse (held w n))) until in
     let whole : AreDelivered IsPacked (deliveries w cs (arrivals w)) final = rw same (subst (λ (ds : List (ℕ × Column)). AreDelivered IsPacked ds inboxes) joined all) in
-    record { hosts = ap length same ∙ many ∙ is.hosts; each = whole.each }
+    record {
+      hosts = ap length same ∙ many ∙ is.hosts;
+      few = λ h low. let long = matched_length IsPacked (slice_index_or final h []) (brought w cs h) (whole.each h low) in omega (arith, long, few_brought w cs h);
+      each = whole.each;
+    }

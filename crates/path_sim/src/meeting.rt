@@ -1,5 +1,6 @@
 //! A packet meets a switch.
 ghost use Rattle.std.specs.Prelude.{◌≡◌, ◌<◌, ◌≤◌, ◌+◌, ◌-◌, ◌++◌, ◌∷◌, [], None, false, length, slice_set, slice_index, slice_index_or, IfOk, All};
+ghost use Rattle.lg_model.specs.declared.limits.TheConstants.{MOST_HOPS, MOST_PACKETS};
 ghost use Rattle.lg_model.specs.Placing.{places_of};
 ghost use Rattle.lg_model.specs.Trace.{observation};
 ghost use Rattle.lg_model.specs.Scenario.{ended};
@@ -67,8 +68,8 @@ fn offer<P: Picker>(
     requires name { m.now.switch ≡ slice_index scenario.now.switches m.now.switch_at }
     requires first_hop { 1 ≤ m.now.hop }
     requires last_hop { m.now.hop ≤ m.now.hops }
-    requires few_hops { m.now.hops ≤ 16 }
-    requires few { m.now.number < 1000000 }
+    requires few_hops { m.now.hops ≤ MOST_HOPS }
+    requires few { m.now.number < MOST_PACKETS }
     requires epoch { 0 < ended scenario.now m.now.switch_at m.now.step_at }
     requires empty { cargo.old ≡ None }
     requires none { carries (carried_are carried.old.items) m.now.number ≡ false }
@@ -118,8 +119,8 @@ pub fn meet<P: Picker>(
     requires name { m.now.switch ≡ slice_index scenario.now.switches m.now.switch_at }
     requires first_hop { 1 ≤ m.now.hop }
     requires last_hop { m.now.hop ≤ m.now.hops }
-    requires few_hops { m.now.hops ≤ 16 }
-    requires few { m.now.number < 1000000 }
+    requires few_hops { m.now.hops ≤ MOST_HOPS }
+    requires few { m.now.number < MOST_PACKETS }
     requires places { places.now ≡ places_of scenario.now.shape m.now.key }
     requires cargo { IsCargo scenario.now (carried_are carried.old.items) m.now.number cargo.old }
     requires few_carried { length carried.old.items ≤ m.now.number + some_count cargo.old }

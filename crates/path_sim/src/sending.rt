@@ -1,5 +1,6 @@
 //! Packets go their way.
 ghost use Rattle.std.specs.Prelude.{◌≡◌, ℕ, ◌<◌, ◌≤◌, ◌+◌, length, IfOk, All};
+ghost use Rattle.lg_model.specs.declared.limits.TheConstants.{MOST_PACKETS};
 ghost use Rattle.lg_model.specs.Placing.{places_of};
 ghost use Rattle.lg_model.specs.Trace.{reach, meetings_in, packets, packets_until};
 ghost use Rattle.lg_model.specs.Arriving.{packet_at};
@@ -52,7 +53,7 @@ fn send<P: Picker>(
     carried: &mut Vec<Carry>,
 ) -> Result<Option<Packed>, Memory>
     requires number { number < length (packets scenario.now) }
-    requires few { length (packets scenario.now) ≤ 1000000 }
+    requires few { length (packets scenario.now) ≤ MOST_PACKETS }
     requires packet { packet_at scenario.now number ≡ packet_is sent.now }
     requires fits { IsFit (length scenario.now.switches) sent.now }
     requires places { places.now ≡ places_of scenario.now.shape sent.now.flow.now.key }
@@ -102,7 +103,7 @@ pub fn send_one<P: Picker>(
     traffic: &mut Traffic,
 ) -> Result<(), Memory>
     requires number { number < length (packets scenario.now) }
-    requires few { length (packets scenario.now) ≤ 1000000 }
+    requires few { length (packets scenario.now) ≤ MOST_PACKETS }
     requires packet { packet_at scenario.now number ≡ packet_is sent.now }
     requires inside { sent.now.step_at ≤ length scenario.now.steps }
     requires first { length (packets_until scenario.now sent.now.step_at) ≤ number }
@@ -146,7 +147,7 @@ pub fn send_all<P: Picker>(
     traffic: &mut Traffic,
 ) -> Result<(), Memory>
     requires number { number + count ≤ length (packets scenario.now) }
-    requires few { length (packets scenario.now) ≤ 1000000 }
+    requires few { length (packets scenario.now) ≤ MOST_PACKETS }
     requires packets { (b : ℕ) → b < count → packet_at scenario.now (number + b) ≡ packet_is sent.now }
     requires inside { sent.now.step_at ≤ length scenario.now.steps }
     requires first { length (packets_until scenario.now sent.now.step_at) ≤ number }
