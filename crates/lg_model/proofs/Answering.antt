@@ -17,7 +17,7 @@ use Rattle.lg_model.specs.declared.answer.Value.{Value}
 use Rattle.lg_model.specs.declared.answer.Value.TheVariants.{Unknown, AtMost, Saturated}
 use Rattle.flow_key.specs.declared.key.FlowKey.{FlowKey}
 use Rattle.lg_model.proofs.Bounding.{bound, IsTable-raise, at}
-use Rattle.lg_model.proofs.Limits.{limits, low_in}
+use Rattle.lg_model.proofs.CounterLimits.{limits, low_in}
 
 -- between the truth, up to the limit, and the limit
 abbrev Between : (limit t x : ℕ) → Type 0

@@ -1,7 +1,7 @@
 pub mod Keys
 pub mod Raising
 pub mod Bounding
-pub mod Limits
+pub mod CounterLimits
 pub mod Answering
 pub mod Tracing
 pub mod Running

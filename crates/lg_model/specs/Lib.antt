@@ -1,4 +1,5 @@
 pub mod Placing
+pub mod Columns
 pub mod Scenario
 pub mod Matching
 pub mod Trace

@@ -15,8 +15,10 @@
 mod answer;
 mod column;
 mod laws;
+pub mod limits;
 mod lists;
 mod scenario;
+mod shape;
 
 pub use answer::{Answer, Value};
 pub use column::{Bucket, Dims, Key};
@@ -24,4 +26,5 @@ pub use laws::{
     answers_are_true, counters_are_bounds, counters_stay_low, frozen_is_settled, worked_scenarios,
 };
 pub use lists::{Delays, Letters, Path};
+pub use shape::Shape;
 pub use scenario::{Ask, Fate, Flow, Hash, HostLine, Letter, Pick, Step};

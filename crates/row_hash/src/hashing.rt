@@ -4,7 +4,7 @@ ghost use Rattle.flow_key.specs.KeyText.{key_bytes};
 ghost use Rattle.lg_model.specs.Placing.{mixed, place, places_of};
 
 use crate::row_places::Places;
-use crate::shape::Shape;
+use lg_model::Shape;
 use flow_key::FlowKey;
 use lg_model::Hash;
 

@@ -10,11 +10,9 @@
 
 mod hashing;
 mod row_places;
-mod shape;
 #[cfg(test)]
 mod tests;
 
 pub use hashing::places;
-pub use lg_model::Hash;
+pub use lg_model::{Hash, Shape};
 pub use row_places::Places;
-pub use shape::Shape;

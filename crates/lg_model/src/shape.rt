@@ -2,7 +2,7 @@
 ghost use Rattle.std.specs.Prelude.{◌≡◌, MatchOption};
 ghost use Rattle.lg_model.specs.Placing.{IsShape};
 
-use lg_model::Hash;
+use crate::scenario::Hash;
 use std::marker::Model;
 
 /// The size of a sketch, and how it finds the places of a flow: 1 to 8 rows, 1 to 4,096 buckets a row, and a hash.
