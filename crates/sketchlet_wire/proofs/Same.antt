@@ -7,7 +7,8 @@ use Rattle.std.specs.Cmp.Lexicographic.{pointwise, pointwise_decides}
 use Rattle.lg_model.specs.declared.column.Bucket.{Bucket}
 use Rattle.lg_model.specs.declared.column.Key.{Key}
 use Rattle.lg_model.specs.declared.column.Dims.{Dims}
-use Rattle.sketchlet_wire.specs.Spelling.{ColumnData, filled, zeros}
+use Rattle.lg_model.specs.Columns.{Column}
+use Rattle.sketchlet_wire.specs.Spelling.{filled, zeros}
 
 bucket_same : (a b : Bucket) → Decides (eqb a.bytes b.bytes && eqb a.delay b.delay) (a ≡ b)
 bucket_same a b =
@@ -32,18 +33,19 @@ dims_same a b =
     (Decides-and (eqb a.rows b.rows) (eqb a.width b.width) (Decides-eqb a.rows b.rows) (Decides-eqb a.width b.width))
 
 -- the test that a derived comparison makes
-abbrev eq_column : ColumnData → ColumnData → Bool
+abbrev eq_column : Column → Column → Bool
 eq_column a b = (eqb a.key.switch b.key.switch && (eqb a.key.epoch b.key.epoch && eqb a.key.index b.key.index))
     && ((eqb a.dims.rows b.dims.rows && eqb a.dims.width b.dims.width)
-    && pointwise (λ (x y : Bucket). eqb x.bytes y.bytes && eqb x.delay y.delay) (filled a.dims a.buckets) (filled b.dims b.buckets))
+    && pointwise (λ (x y : Bucket). eqb x.bytes y.bytes && eqb x.delay y.delay) (filled a.dims a.cells) (filled b.dims b.cells))
 
-same_filled : (a b : ColumnData) → a.dims ≡ b.dims → filled a.dims a.buckets ≡ filled b.dims b.buckets → a.buckets ≡ b.buckets
-same_filled a b dims e =
-    append_cancel_right a.buckets b.buckets (drop b.dims.rows zeros) (ap (λ (d : Dims). a.buckets ++ drop d.rows zeros) (sym dims) ∙ e)
+same_filled : (a b : Column) → a.dims ≡ b.dims → filled a.dims a.cells ≡ filled b.dims b.cells → a.cells ≡ b.cells
+same_filled a b dims e = λ i. record {
+  buckets = append_cancel_right a.cells.buckets b.cells.buckets (drop b.dims.rows zeros) (ap (λ (d : Dims). a.cells.buckets ++ drop d.rows zeros) (sym dims) ∙ e) i;
+}
 
-pub column_same : (a b : ColumnData) → Decides (eq_column a b) (a ≡ b)
+pub column_same : (a b : Column) → Decides (eq_column a b) (a ≡ b)
 column_same a b =
     Decides-like (eq_column a b)
-    (λ h i. record { key = h.0 i; dims = h.1.0 i; buckets = same_filled a b h.1.0 h.1.1 i })
-    (λ e. (ap (λ (c : ColumnData). c.key) e, (ap (λ (c : ColumnData). c.dims) e, ap (λ (c : ColumnData). filled c.dims c.buckets) e)))
-    (Decides-and _ _ (key_same a.key b.key) (Decides-and _ _ (dims_same a.dims b.dims) (pointwise_decides bucket_same (filled a.dims a.buckets) (filled b.dims b.buckets))))
+    (λ h i. record { key = h.0 i; dims = h.1.0 i; cells = same_filled a b h.1.0 h.1.1 i })
+    (λ e. (ap (λ (c : Column). c.key) e, (ap (λ (c : Column). c.dims) e, ap (λ (c : Column). filled c.dims c.cells) e)))
+    (Decides-and _ _ (key_same a.key b.key) (Decides-and _ _ (dims_same a.dims b.dims) (pointwise_decides bucket_same (filled a.dims a.cells) (filled b.dims b.cells))))
