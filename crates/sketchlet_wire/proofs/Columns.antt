@@ -1,17 +1,20 @@
 -- What is read is spelled so, what is spelled so is read, and so no spelling begins another.
 use Rattle.std.proofs.Common.{◌≡◌, ℕ, ◌^◌, ◌<◌, ◌≤◌, List, [], ◌∷◌, ◌++◌, length, drop, Result, Ok, Err, refl, sym, ap, subst, ◌∙◌, append_assoc, arith}
 use Rattle.std.specs.Prelude.{IfOk}
-use Rattle.std.specs.Int.{w16, w32, to_be_bytes}
-use Rattle.std.specs.List.{flat_map}
+use Rattle.std.specs.Int.{w16, to_be_bytes}
 use Rattle.std.proofs.lemmas.List.{drop_at, length-append, append-nil}
-use Rattle.lg_model.specs.declared.column.Key.{Key}
+use Rattle.byte_fields.specs.Reading.{◌>>=◌}
+use Rattle.byte_fields.specs.Law.{IsBytes, Takes}
+use Rattle.byte_fields.proofs.Steps.{bind_ok, ok_is}
+use Rattle.byte_fields.proofs.Numbers.{Takes-then}
 use Rattle.lg_model.specs.declared.column.Dims.{Dims}
-use Rattle.sketchlet_wire.specs.declared.fault.WireFault.{WireFault}
 use Rattle.lg_model.specs.Columns.{Column}
-use Rattle.sketchlet_wire.specs.Spelling.{IsColumn, spelling, spelling_len, marks, dims_bytes, key_bytes, bucket_bytes}
-use Rattle.sketchlet_wire.specs.Reading.{◌>>=◌, number_at, mark_at, rows_at, width_at, index_at, buckets_at, marks_at, dims_at, key_at, dims_of_parts, key_of_parts, column_of_parts, column_at, column_reading}
+use Rattle.sketchlet_wire.specs.declared.fault.WireFault.{WireFault}
+use Rattle.sketchlet_wire.specs.declared.fault.WireFault.TheVariants.{Short}
+use Rattle.sketchlet_wire.specs.Spelling.{IsColumn, spelling, spelling_len, marks, dims_bytes, column_key_bytes, cells_bytes}
+use Rattle.sketchlet_wire.specs.Reading.{mark_at, rows_at, width_at, marks_at, dims_at, admitted_key_at, cells_at, dims_of_parts, column_of_parts, sketchlet_at, column_reading}
 use Rattle.sketchlet_wire.specs.Law.{LawOfSpellings}
-use Rattle.sketchlet_wire.proofs.Fields.{IsBytes, bind_ok, ok_is, Takes, Takes-then, wide16, wide32, number_takes, number_again, mark_takes, mark_again, rows_takes, rows_again, width_takes, width_again, index_takes, index_again, buckets_at_takes, buckets_at_again, buckets_len}
+use Rattle.sketchlet_wire.proofs.Fields.{mark_takes, mark_again, rows_takes, rows_again, width_takes, width_again, key_len, admitted_takes, admitted_again, cells_length, cells_again, cells_take}
 
 marks_take : (bytes rest : List ℕ) → IsBytes bytes → marks_at bytes ≡ Ok rest → Takes bytes marks rest
 unfolding marks_at marks
@@ -42,68 +45,48 @@ dims_again : (d : Dims) (rest : List ℕ) → 1 ≤ d.rows → d.rows ≤ 8 → 
 unfolding dims_at dims_bytes
 dims_again d rest r1 r8 w1 w4 = rw (rows_again d.rows (to_be_bytes w16 d.width ++ rest) r1 r8, width_again d.width rest w1 w4) refl
 
-key_takes : (width : ℕ) (bytes : List ℕ) (x : Key × List ℕ) → IsBytes bytes → key_at width bytes ≡ Ok x → Takes bytes (key_bytes x.0) x.1 × (x.0.switch < 2 ^ 16) × (x.0.epoch < 2 ^ 32) × (x.0.index < width)
-unfolding key_at key_bytes
-key_takes width bytes x fits e =
-    let a = bind_ok (number_at w16 bytes) (λ switch. number_at w32 switch.1 >>= λ epoch. index_at width epoch.1 >>= λ index. Ok (key_of_parts switch.0 epoch.0 index.0, index.1)) x e in
-    let b = bind_ok (number_at w32 a.0.1) (λ epoch. index_at width epoch.1 >>= λ index. Ok (key_of_parts a.0.0 epoch.0 index.0, index.1)) x a.2 in
-    let c = bind_ok (index_at width b.0.1) (λ index. Ok (key_of_parts a.0.0 b.0.0 index.0, index.1)) x b.2 in
-    let t1 = number_takes w16 (2 ^ 16) wide16 bytes a.0 fits a.1 in
-    let t2 = number_takes w32 (2 ^ 32) wide32 a.0.1 b.0 t1.0.rest_fits b.1 in
-    let t3 = index_takes width b.0.1 c.0 t2.0.rest_fits c.1 in
-    let s2 = Takes-then a.0.1 (to_be_bytes w32 b.0.0) b.0.1 (to_be_bytes w16 c.0.0) c.0.1 t2.0 t3.0 in
-    let s1 = Takes-then bytes (to_be_bytes w16 a.0.0) a.0.1 (to_be_bytes w32 b.0.0 ++ to_be_bytes w16 c.0.0) c.0.1 t1.0 s2 in
-    let made : Key × List ℕ = (key_of_parts a.0.0 b.0.0 c.0.0, c.0.1) in
-    subst (λ (y : Key × List ℕ). Takes bytes (key_bytes y.0) y.1 × (y.0.switch < 2 ^ 16) × (y.0.epoch < 2 ^ 32) × (y.0.index < width)) {x = made} (ok_is made x c.2) (s1, t1.1, t2.1, t3.1)
-
-key_again : (width : ℕ) (k : Key) (rest : List ℕ) → k.switch < 2 ^ 16 → k.epoch < 2 ^ 32 → k.index < width → width ≤ 4096 → key_at width (key_bytes k ++ rest) ≡ Ok (k, rest)
-unfolding key_at key_bytes
-key_again width k rest s e i w =
-    rw (number_again w16 (2 ^ 16) wide16 k.switch (to_be_bytes w32 k.epoch ++ (to_be_bytes w16 k.index ++ rest)) s, number_again w32 (2 ^ 32) wide32 k.epoch (to_be_bytes w16 k.index ++ rest) e, index_again width k.index rest i w) refl
-
-pub column_takes : (bytes : List ℕ) (x : Column × List ℕ) → IsBytes bytes → column_at bytes ≡ Ok x → Takes bytes (spelling x.0) x.1 × IsColumn x.0
-unfolding column_at
+pub column_takes : (bytes : List ℕ) (x : Column × List ℕ) → IsBytes bytes → sketchlet_at bytes ≡ Ok x → Takes bytes (spelling x.0) x.1 × IsColumn x.0
+unfolding sketchlet_at
 column_takes bytes x fits e =
-    let a = bind_ok (marks_at bytes) (λ rest. dims_at rest >>= λ dims. key_at dims.0.width dims.1 >>= λ key. buckets_at dims.0.rows key.1 >>= λ buckets. Ok (column_of_parts key.0 dims.0 buckets.0, buckets.1)) x e in
-    let b = bind_ok (dims_at a.0) (λ dims. key_at dims.0.width dims.1 >>= λ key. buckets_at dims.0.rows key.1 >>= λ buckets. Ok (column_of_parts key.0 dims.0 buckets.0, buckets.1)) x a.2 in
-    let c = bind_ok (key_at b.0.0.width b.0.1) (λ key. buckets_at b.0.0.rows key.1 >>= λ buckets. Ok (column_of_parts key.0 b.0.0 buckets.0, buckets.1)) x b.2 in
-    let d = bind_ok (buckets_at b.0.0.rows c.0.1) (λ buckets. Ok (column_of_parts c.0.0 b.0.0 buckets.0, buckets.1)) x c.2 in
+    let a = bind_ok (marks_at bytes) (λ rest. dims_at rest >>= λ dims. admitted_key_at dims.0.width dims.1 >>= λ key. cells_at Short dims.0.rows key.1 >>= λ cells. Ok (column_of_parts key.0 dims.0 cells.0, cells.1)) x e in
+    let b = bind_ok (dims_at a.0) (λ dims. admitted_key_at dims.0.width dims.1 >>= λ key. cells_at Short dims.0.rows key.1 >>= λ cells. Ok (column_of_parts key.0 dims.0 cells.0, cells.1)) x a.2 in
+    let c = bind_ok (admitted_key_at b.0.0.width b.0.1) (λ key. cells_at Short b.0.0.rows key.1 >>= λ cells. Ok (column_of_parts key.0 b.0.0 cells.0, cells.1)) x b.2 in
+    let d = bind_ok (cells_at Short b.0.0.rows c.0.1) (λ cells. Ok (column_of_parts c.0.0 b.0.0 cells.0, cells.1)) x c.2 in
     let t1 = marks_take bytes a.0 fits a.1 in
     let t2 = dims_take a.0 b.0 t1.rest_fits b.1 in
-    let t3 = key_takes b.0.0.width b.0.1 c.0 t2.0.rest_fits c.1 in
-    let t4 = buckets_at_takes b.0.0.rows c.0.1 d.0 t3.0.rest_fits d.1 in
-    let s3 = Takes-then b.0.1 (key_bytes c.0.0) c.0.1 (flat_map bucket_bytes d.0.0) d.0.1 t3.0 t4.0 in
-    let s2 = Takes-then a.0 (dims_bytes b.0.0) b.0.1 (key_bytes c.0.0 ++ flat_map bucket_bytes d.0.0) d.0.1 t2.0 s3 in
-    let s1 = Takes-then bytes marks a.0 (dims_bytes b.0.0 ++ (key_bytes c.0.0 ++ flat_map bucket_bytes d.0.0)) d.0.1 t1 s2 in
+    let t3 = admitted_takes b.0.0.width b.0.1 c.0 t2.0.rest_fits c.1 in
+    let t4 = cells_take Short b.0.0.rows c.0.1 d.0 t3.0.rest_fits d.1 in
+    let s3 = Takes-then b.0.1 (column_key_bytes c.0.0) c.0.1 (cells_bytes d.0.0) d.0.1 t3.0 t4.0 in
+    let s2 = Takes-then a.0 (dims_bytes b.0.0) b.0.1 (column_key_bytes c.0.0 ++ cells_bytes d.0.0) d.0.1 t2.0 s3 in
+    let s1 = Takes-then bytes marks a.0 (dims_bytes b.0.0 ++ (column_key_bytes c.0.0 ++ cells_bytes d.0.0)) d.0.1 t1 s2 in
     let made : Column × List ℕ = (column_of_parts c.0.0 b.0.0 d.0.0, d.0.1) in
     let is : IsColumn made.0 = record {
       some_rows = t2.1;
       few_rows = t2.2;
       small_width = t2.3;
-      index = t3.3;
-      switch = t3.1;
-      epoch = t3.2;
-      buckets = t4.1;
-      fit = t4.2;
+      index = t3.2;
+      switch = t3.1.switch;
+      epoch = t3.1.epoch;
+      cells = t4.1;
     } in
     subst (λ (y : Column × List ℕ). Takes bytes (spelling y.0) y.1 × IsColumn y.0) {x = made} (ok_is made x d.2) (s1, is)
 
-pub column_again : (c : Column) (rest : List ℕ) → IsColumn c → column_at (spelling c ++ rest) ≡ Ok (c, rest)
-unfolding column_at
+pub column_again : (c : Column) (rest : List ℕ) → IsColumn c → sketchlet_at (spelling c ++ rest) ≡ Ok (c, rest)
+unfolding sketchlet_at
 column_again c rest is =
-    let end : List ℕ = flat_map bucket_bytes c.cells.buckets ++ rest in
-    let buckets : buckets_at c.dims.rows end ≡ Ok (c.cells.buckets, rest) = ap (λ (n : ℕ). buckets_at n end) (sym is.buckets) ∙ buckets_at_again c.cells.buckets rest is.fit in
-    let regrouped : spelling c ++ rest ≡ marks ++ (dims_bytes c.dims ++ (key_bytes c.key ++ end)) = simp append_assoc in
-    ap column_at regrouped ∙ rw (
-      marks_again (dims_bytes c.dims ++ (key_bytes c.key ++ end)),
-      dims_again c.dims (key_bytes c.key ++ end) is.some_rows is.few_rows (omega (arith, is.index)) is.small_width,
-      key_again c.dims.width c.key end is.switch is.epoch is.index is.small_width,
-      buckets,
+    let end : List ℕ = cells_bytes c.cells ++ rest in
+    let regrouped : spelling c ++ rest ≡ marks ++ (dims_bytes c.dims ++ (column_key_bytes c.key ++ end)) = simp append_assoc in
+    let index_fits : c.key.index < 2 ^ 16 = omega (arith, is.index, is.small_width) in
+    ap sketchlet_at regrouped ∙ rw (
+      marks_again (dims_bytes c.dims ++ (column_key_bytes c.key ++ end)),
+      dims_again c.dims (column_key_bytes c.key ++ end) is.some_rows is.few_rows (omega (arith, is.index)) is.small_width,
+      admitted_again c.dims.width c.key end (record { switch = is.switch; epoch = is.epoch; index = index_fits }) is.index,
+      cells_again Short c.dims.rows c.cells rest is.cells,
     ) refl
 
 spellings_apart : (a b : Column) (x y : List ℕ) → IsColumn a → IsColumn b → spelling a ++ x ≡ spelling b ++ y → (a ≡ b) × (x ≡ y)
 spellings_apart a b x y is-a is-b e =
-    let same : Ok (a, x) ≡ Ok (b, y) = sym (column_again a x is-a) ∙ ap column_at e ∙ column_again b y is-b in
+    let same : Ok (a, x) ≡ Ok (b, y) = sym (column_again a x is-a) ∙ ap sketchlet_at e ∙ column_again b y is-b in
     let both = ok_is {E = WireFault} (a, x) (b, y) same in
     (ap (λ (p : Column × List ℕ). p.0) both, ap (λ (p : Column × List ℕ). p.1) both)
 
@@ -115,15 +98,22 @@ law = record {
 }
 
 pub spelling_length : (c : Column) → IsColumn c → length (spelling c) ≡ spelling_len c.dims.rows
-unfolding marks dims_bytes key_bytes
-spelling_length c is = omega (arith, length-append (marks ++ (dims_bytes c.dims ++ key_bytes c.key)) (flat_map bucket_bytes c.cells.buckets), buckets_len c.cells.buckets, is.buckets)
+unfolding marks dims_bytes
+spelling_length c is =
+    omega (
+      arith,
+      length-append (marks ++ dims_bytes c.dims) (column_key_bytes c.key ++ cells_bytes c.cells),
+      length-append (column_key_bytes c.key) (cells_bytes c.cells),
+      key_len c.key,
+      cells_length c.dims.rows c.cells is.cells,
+    )
 
 -- what a decoder's answer says
 pub is_found : (bytes : List ℕ) (r : Result (Column × ℕ) WireFault) → IsBytes bytes → r ≡ column_reading bytes
     → IfOk r (λ x. IsColumn x.0 × (bytes ≡ spelling x.0 ++ drop x.1 bytes) × (x.1 ≡ spelling_len x.0.dims.rows))
 is_found bytes (Err f) fits e = tt
 is_found bytes (Ok x) fits e =
-    let a = bind_ok (column_at bytes) (λ x. Ok (x.0, spelling_len x.0.dims.rows)) x (sym e) in
+    let a = bind_ok (sketchlet_at bytes) (λ x. Ok (x.0, spelling_len x.0.dims.rows)) x (sym e) in
     let t = column_takes bytes a.0 fits a.1 in
     let whole : bytes ≡ spelling a.0.0 ++ drop (spelling_len a.0.0.dims.rows) bytes = t.0.parts ∙ ap (λ (r : List ℕ). spelling a.0.0 ++ r) (sym (ap (drop (spelling_len a.0.0.dims.rows)) t.0.parts ∙ drop_at (spelling a.0.0) a.0.1 (spelling_len a.0.0.dims.rows) (spelling_length a.0.0 t.1))) in
     let made : Column × ℕ = (a.0.0, spelling_len a.0.0.dims.rows) in

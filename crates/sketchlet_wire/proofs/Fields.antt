@@ -1,107 +1,24 @@
 -- A field that is read is the field that was written, and what was written is read again.
-use Rattle.std.proofs.Common.{◌≡◌, ℕ, zero, suc, ◌+◌, ◌*◌, ◌^◌, ◌<◌, ◌≤◌, ◌||◌, Bool, true, false, cond, ltb, eqb, List, [], ◌∷◌, ◌++◌, length, get_or, take, drop, Result, Ok, Err, refl, sym, ap, subst, ◌∙◌, append_assoc, arith, inl, inr}
-use Rattle.std.specs.Int.{Width, w16, w32, byte_len, from_be_bytes, to_be_bytes}
+use Rattle.std.proofs.Common.{◌≡◌, ℕ, zero, suc, ◌+◌, ◌*◌, ◌^◌, ◌<◌, ◌≤◌, ◌||◌, true, false, cond, ltb, eqb, List, [], ◌∷◌, ◌++◌, length, take, drop, Result, Ok, Err, refl, sym, ap, subst, ◌∙◌, append_assoc, arith}
+use Rattle.std.specs.Int.{w16, w32, to_be_bytes}
 use Rattle.std.specs.List.{flat_map}
-use Rattle.std.proofs.lemmas.Bool.{cases_lt, ltb-false, ltb-true, le-ltb, eqb-true}
-use Rattle.std.proofs.lemmas.List.{take_at, drop_at, take-append-drop, length-append, length-take, length-drop, get_or-drop, get_or-take, get_or_past, drop-drop}
+use Rattle.std.proofs.lemmas.Bool.{ltb-false, ltb-true, le-ltb, eqb-true}
+use Rattle.std.proofs.lemmas.List.{drop_at, take-append-drop, length-append, length-drop, drop-drop}
 use Rattle.std.proofs.lemmas.List.Concat.{flat_map-cons}
-use Rattle.std.proofs.lemmas.Nat.{be_bytes_2, be_bytes_4, from_be_bytes-to_be_bytes_2, from_be_bytes-to_be_bytes_4}
+use Rattle.std.proofs.lemmas.Nat.{from_be_bytes-to_be_bytes_2, from_be_bytes-to_be_bytes_4}
+use Rattle.byte_fields.specs.Reading.{◌>>=◌, number_at, byte_at}
+use Rattle.byte_fields.specs.Law.{IsBytes, Takes}
+use Rattle.byte_fields.proofs.Steps.{bind_ok, guard_ok, guarded, ok_is}
+use Rattle.byte_fields.proofs.Numbers.{IsBytes-drop, IsBytes-take, IsBytes-rest, Takes-then, wide16, wide32, front_back, number_takes, number_again}
 use Rattle.lg_model.specs.declared.column.Bucket.{Bucket}
+use Rattle.lg_model.specs.declared.column.Key.{Key}
+use Rattle.lg_model.specs.Columns.{Cells}
 use Rattle.lg_model.specs.Sketch.{zero_bucket}
 use Rattle.sketchlet_wire.specs.declared.fault.WireFault.TheVariants.{Short, NotSketchlet, BadRows, BadWidth, BadIndex}
-use Rattle.sketchlet_wire.specs.Spelling.{FitsBucket, FitBuckets, bucket_bytes}
-use Rattle.sketchlet_wire.specs.Reading.{◌>>=◌, number_at, byte_at, mark_at, rows_at, width_at, index_at, bucket_from, buckets_from, buckets_at}
-
-abbrev pub IsBytes : List ℕ → Type 0
-IsBytes bytes = (i : ℕ) → get_or bytes i 0 < 256
-
-pub IsBytes-drop : (n : ℕ) (bytes : List ℕ) → IsBytes bytes → IsBytes (drop n bytes)
-IsBytes-drop n bytes h i = rw get_or-drop (h (n + i))
-
-pub IsBytes-take : (n : ℕ) (bytes : List ℕ) → IsBytes bytes → IsBytes (take n bytes)
-IsBytes-take n bytes h i =
-    elim (cases_lt i n) [
-      | inl lt ↦ rw (get_or-take n bytes i 0 lt) (h i)
-      | inr le ↦ rw (get_or_past (take n bytes) i 0 (omega (arith, length-take n bytes))) (omega arith)
-    ]
-
--- the value of a step that did not fail
-pub bind_ok : {A B E : Type 0} (r : Result A E) (f : A → Result B E) (y : B) → (r >>= f) ≡ Ok y → (x : A) × (r ≡ Ok x) × (f x ≡ Ok y)
-bind_ok (Ok x) f y e = (x, refl, e)
-bind_ok (Err d) f y e = absurd cc
-
--- a test that did not fail
-pub guard_ok : {A E : Type 0} (b : Bool) (d : E) (x y : A) → cond b (Err d) (Ok x) ≡ Ok y → (b ≡ false) × (x ≡ y)
-guard_ok true d x y e = absurd cc
-guard_ok false d x y e = (refl, cc)
-
-pub guarded : {A E : Type 0} (b : Bool) (d : E) (x y : A) → cond b (Ok x) (Err d) ≡ Ok y → (b ≡ true) × (x ≡ y)
-guarded true d x y e = (refl, cc)
-guarded false d x y e = absurd cc
-
-abbrev done : {A E : Type 0} → A → Result A E
-done x = Ok x
-
-pub ok_is : {A E : Type 0} (x y : A) → done {E = E} x ≡ done {E = E} y → x ≡ y
-ok_is x y e = cc
-
--- what a reader took from the front
-pub record Takes (bytes text rest : List ℕ) : Type 0 where
-  pub parts : bytes ≡ text ++ rest
-  pub rest_fits : IsBytes rest
-
-pub Takes-then : (a x b y c : List ℕ) → Takes a x b → Takes b y c → Takes a (x ++ y) c
-Takes-then a x b y c p q = record { parts = p.parts ∙ ap (λ (t : List ℕ). x ++ t) q.parts ∙ sym (append_assoc x y c); rest_fits = q.rest_fits }
-
--- ---- numbers
-
-pub record IsWide (w : Width) (limit : ℕ) : Type 0 where
-  pub len : (n : ℕ) → length (to_be_bytes w n) ≡ byte_len w
-  pub back : (bytes : List ℕ) → length bytes ≡ byte_len w → IsBytes bytes → to_be_bytes w (from_be_bytes w bytes) ≡ bytes
-  pub again : (n : ℕ) → n < limit → from_be_bytes w (to_be_bytes w n) ≡ n
-  pub below : (bytes : List ℕ) → IsBytes bytes → from_be_bytes w bytes < limit
-
-pub wide16 : IsWide w16 (2 ^ 16)
-wide16 = record {
-  len = λ n. refl;
-  back = λ bytes len fits. be_bytes_2 bytes _ len fits refl;
-  again = λ n lt. from_be_bytes-to_be_bytes_2 n lt;
-  below = λ bytes fits. omega (arith, fits 0, fits 1);
-}
-
-pub wide32 : IsWide w32 (2 ^ 32)
-wide32 = record {
-  len = λ n. refl;
-  back = λ bytes len fits. be_bytes_4 bytes _ len fits refl;
-  again = λ n lt. from_be_bytes-to_be_bytes_4 n lt;
-  below = λ bytes fits. omega (arith, fits 0, fits 1, fits 2, fits 3);
-}
-
--- the front of some bytes, read and written
-pub front_back : (w : Width) (limit : ℕ) (wide : IsWide w limit) (bytes : List ℕ) → IsBytes bytes → byte_len w ≤ length bytes → to_be_bytes w (from_be_bytes w (take (byte_len w) bytes)) ≡ take (byte_len w) bytes
-front_back w limit wide bytes fits long = wide.back (take (byte_len w) bytes) (omega (arith, length-take (byte_len w) bytes)) (IsBytes-take (byte_len w) bytes fits)
-
-pub number_takes : (w : Width) (limit : ℕ) (wide : IsWide w limit) (bytes : List ℕ) (x : ℕ × List ℕ) → IsBytes bytes → number_at w bytes ≡ Ok x → Takes bytes (to_be_bytes w x.0) x.1 × (x.0 < limit)
-unfolding number_at
-number_takes w limit wide bytes x fits e =
-    let made : ℕ × List ℕ = (from_be_bytes w (take (byte_len w) bytes), drop (byte_len w) bytes) in
-    let g = guard_ok (ltb (length bytes) (byte_len w)) Short made x e in
-    let long : byte_len w ≤ length bytes = ltb-false _ _ g.0 in
-    let front = front_back w limit wide bytes fits long in
-    subst (λ (y : ℕ × List ℕ). Takes bytes (to_be_bytes w y.0) y.1 × (y.0 < limit)) g.1
-    (record { parts = rw front (sym (take-append-drop (byte_len w) bytes)); rest_fits = IsBytes-drop (byte_len w) bytes fits }, wide.below (take (byte_len w) bytes) (IsBytes-take (byte_len w) bytes fits))
-
-pub number_again : (w : Width) (limit : ℕ) (wide : IsWide w limit) (n : ℕ) (rest : List ℕ) → n < limit → number_at w (to_be_bytes w n ++ rest) ≡ Ok (n, rest)
-unfolding number_at
-number_again w limit wide n rest lt =
-    let len = wide.len n in
-    let long : ltb (length (to_be_bytes w n ++ rest)) (byte_len w) ≡ false = le-ltb _ _ (omega (arith, length-append (to_be_bytes w n) rest)) in
-    rw (long, take_at (to_be_bytes w n) rest (byte_len w) len, drop_at (to_be_bytes w n) rest (byte_len w) len, wide.again n lt) refl
+use Rattle.sketchlet_wire.specs.Spelling.{FitsBucket, FitBuckets, FitsKey, AreCells, bucket_bytes, cells_bytes, cells_len, column_key_bytes}
+use Rattle.sketchlet_wire.specs.Reading.{mark_at, rows_at, width_at, bucket_from, buckets_from, cells_of_parts, cells_at, key_of_parts, key_at, admitted_key_at}
 
 -- ---- marks and guarded fields
-
-pub IsBytes-rest : (b : ℕ) (bytes : List ℕ) → IsBytes (b ∷ bytes) → IsBytes bytes
-IsBytes-rest b bytes h i = h (suc i)
 
 pub mark_takes : (place mark : ℕ) (bytes rest : List ℕ) → IsBytes bytes → mark_at place mark bytes ≡ Ok rest → Takes bytes (mark ∷ []) rest
 unfolding mark_at byte_at
@@ -132,9 +49,9 @@ rows_again n rest lo hi =
 pub width_takes : (bytes : List ℕ) (x : ℕ × List ℕ) → IsBytes bytes → width_at bytes ≡ Ok x → Takes bytes (to_be_bytes w16 x.0) x.1 × (x.0 ≤ 4096)
 unfolding width_at
 width_takes bytes x fits e =
-    let a = bind_ok (number_at w16 bytes) (λ b. cond (ltb b.0 1 || ltb 4096 b.0) (Err (BadWidth b.0)) (Ok b)) x e in
+    let a = bind_ok (number_at Short w16 bytes) (λ b. cond (ltb b.0 1 || ltb 4096 b.0) (Err (BadWidth b.0)) (Ok b)) x e in
     let g = guard_ok (ltb a.0.0 1 || ltb 4096 a.0.0) (BadWidth a.0.0) a.0 x a.2 in
-    let t = number_takes w16 (2 ^ 16) wide16 bytes a.0 fits a.1 in
+    let t = number_takes Short w16 (2 ^ 16) wide16 bytes a.0 fits a.1 in
     subst (λ (y : ℕ × List ℕ). Takes bytes (to_be_bytes w16 y.0) y.1 × (y.0 ≤ 4096)) g.1 (t.0, grind (arith, g.0))
 
 pub width_again : (n : ℕ) (rest : List ℕ) → 1 ≤ n → n ≤ 4096 → width_at (to_be_bytes w16 n ++ rest) ≡ Ok (n, rest)
@@ -142,21 +59,54 @@ unfolding width_at
 width_again n rest lo hi =
     let a : ltb n 1 ≡ false = le-ltb _ _ lo in
     let b : ltb 4096 n ≡ false = le-ltb _ _ hi in
-    rw (number_again w16 (2 ^ 16) wide16 n rest (omega arith), a, b) refl
+    rw (number_again Short w16 (2 ^ 16) wide16 n rest (omega arith), a, b) refl
 
-pub index_takes : (width : ℕ) (bytes : List ℕ) (x : ℕ × List ℕ) → IsBytes bytes → index_at width bytes ≡ Ok x → Takes bytes (to_be_bytes w16 x.0) x.1 × (x.0 < width)
-unfolding index_at
-index_takes width bytes x fits e =
-    let a = bind_ok (number_at w16 bytes) (λ b. cond (ltb b.0 width) (Ok b) (Err (BadIndex b.0))) x e in
-    let g = guarded (ltb a.0.0 width) (BadIndex a.0.0) a.0 x a.2 in
-    let t = number_takes w16 (2 ^ 16) wide16 bytes a.0 fits a.1 in
-    subst (λ (y : ℕ × List ℕ). Takes bytes (to_be_bytes w16 y.0) y.1 × (y.0 < width)) g.1 (t.0, ltb-true _ _ g.0)
+-- ---- keys
 
-pub index_again : (width n : ℕ) (rest : List ℕ) → n < width → width ≤ 4096 → index_at width (to_be_bytes w16 n ++ rest) ≡ Ok (n, rest)
-unfolding index_at
-index_again width n rest lo hi =
-    let a : ltb n width ≡ true = grind arith in
-    rw (number_again w16 (2 ^ 16) wide16 n rest (omega arith), a) refl
+pub key_takes : {E : Type 0} (missing : E) (bytes : List ℕ) (x : Key × List ℕ) → IsBytes bytes → key_at missing bytes ≡ Ok x
+    → Takes bytes (column_key_bytes x.0) x.1 × FitsKey x.0
+unfolding key_at column_key_bytes
+key_takes {E = E} missing bytes x fits e =
+    let last = λ (switch epoch : ℕ) (index : ℕ × List ℕ). (let r : Result (Key × List ℕ) E = Ok (key_of_parts switch epoch index.0, index.1) in r) in
+    let a = bind_ok (number_at missing w16 bytes) (λ s. number_at missing w32 s.1 >>= λ n. number_at missing w16 n.1 >>= λ i. last s.0 n.0 i) x e in
+    let b = bind_ok (number_at missing w32 a.0.1) (λ n. number_at missing w16 n.1 >>= λ i. last a.0.0 n.0 i) x a.2 in
+    let c = bind_ok (number_at missing w16 b.0.1) (λ i. last a.0.0 b.0.0 i) x b.2 in
+    let t1 = number_takes missing w16 (2 ^ 16) wide16 bytes a.0 fits a.1 in
+    let t2 = number_takes missing w32 (2 ^ 32) wide32 a.0.1 b.0 t1.0.rest_fits b.1 in
+    let t3 = number_takes missing w16 (2 ^ 16) wide16 b.0.1 c.0 t2.0.rest_fits c.1 in
+    let s2 = Takes-then a.0.1 (to_be_bytes w32 b.0.0) b.0.1 (to_be_bytes w16 c.0.0) c.0.1 t2.0 t3.0 in
+    let s1 = Takes-then bytes (to_be_bytes w16 a.0.0) a.0.1 (to_be_bytes w32 b.0.0 ++ to_be_bytes w16 c.0.0) c.0.1 t1.0 s2 in
+    let made : Key × List ℕ = (key_of_parts a.0.0 b.0.0 c.0.0, c.0.1) in
+    subst (λ (y : Key × List ℕ). Takes bytes (column_key_bytes y.0) y.1 × FitsKey y.0) {x = made} (ok_is made x c.2)
+    (s1, record { switch = t1.1; epoch = t2.1; index = t3.1 })
+
+pub key_again : {E : Type 0} (missing : E) (k : Key) (rest : List ℕ) → FitsKey k → key_at missing (column_key_bytes k ++ rest) ≡ Ok (k, rest)
+unfolding key_at column_key_bytes
+key_again missing k rest fits =
+    rw (
+      number_again missing w16 (2 ^ 16) wide16 k.switch (to_be_bytes w32 k.epoch ++ (to_be_bytes w16 k.index ++ rest)) fits.switch,
+      number_again missing w32 (2 ^ 32) wide32 k.epoch (to_be_bytes w16 k.index ++ rest) fits.epoch,
+      number_again missing w16 (2 ^ 16) wide16 k.index rest fits.index,
+    ) refl
+
+pub key_len : (k : Key) → length (column_key_bytes k) ≡ 8
+unfolding column_key_bytes
+key_len k = refl
+
+pub admitted_takes : (width : ℕ) (bytes : List ℕ) (x : Key × List ℕ) → IsBytes bytes → admitted_key_at width bytes ≡ Ok x
+    → Takes bytes (column_key_bytes x.0) x.1 × FitsKey x.0 × (x.0.index < width)
+unfolding admitted_key_at
+admitted_takes width bytes x fits e =
+    let a = bind_ok (key_at Short bytes) (λ k. cond (ltb k.0.index width) (Ok k) (Err (BadIndex k.0.index))) x e in
+    let g = guarded (ltb a.0.0.index width) (BadIndex a.0.0.index) a.0 x a.2 in
+    let t = key_takes Short bytes a.0 fits a.1 in
+    subst (λ (y : Key × List ℕ). Takes bytes (column_key_bytes y.0) y.1 × FitsKey y.0 × (y.0.index < width)) g.1 (t.0, t.1, ltb-true _ _ g.0)
+
+pub admitted_again : (width : ℕ) (k : Key) (rest : List ℕ) → FitsKey k → k.index < width → admitted_key_at width (column_key_bytes k ++ rest) ≡ Ok (k, rest)
+unfolding admitted_key_at
+admitted_again width k rest fits inside =
+    let a : ltb k.index width ≡ true = grind arith in
+    rw (key_again Short k rest fits, a) refl
 
 -- ---- buckets
 
@@ -219,18 +169,29 @@ buckets_len (b ∷ bs) =
     let e : length (flat_map bucket_bytes (b ∷ bs)) ≡ length (bucket_bytes b ++ flat_map bucket_bytes bs) = ap length (flat_map-cons bucket_bytes b bs) in
     omega (arith, e, buckets_len bs, length-append (bucket_bytes b) (flat_map bucket_bytes bs))
 
-pub buckets_at_again : (bs : List Bucket) (rest : List ℕ) → FitBuckets bs → buckets_at (length bs) (flat_map bucket_bytes bs ++ rest) ≡ Ok (bs, rest)
-unfolding buckets_at
-buckets_at_again bs rest fits =
+pub cells_length : (rows : ℕ) (cells : Cells) → AreCells rows cells → length (cells_bytes cells) ≡ cells_len rows
+unfolding cells_bytes
+cells_length rows cells are = buckets_len cells.buckets ∙ ap (λ (n : ℕ). 6 * n) are.buckets
+
+buckets_read : {E : Type 0} (missing : E) (bs : List Bucket) (rest : List ℕ) → FitBuckets bs → cells_at missing (length bs) (flat_map bucket_bytes bs ++ rest) ≡ Ok (cells_of_parts bs, rest)
+unfolding cells_at
+buckets_read missing bs rest fits =
     let long : ltb (length (flat_map bucket_bytes bs ++ rest)) (6 * length bs) ≡ false = le-ltb _ _ (omega (arith, buckets_len bs, length-append (flat_map bucket_bytes bs) rest)) in
     rw (long, buckets_again bs rest fits, drop_at (flat_map bucket_bytes bs) rest (6 * length bs) (buckets_len bs)) refl
 
-pub buckets_at_takes : (n : ℕ) (bytes : List ℕ) (x : List Bucket × List ℕ) → IsBytes bytes → buckets_at n bytes ≡ Ok x → Takes bytes (flat_map bucket_bytes x.0) x.1 × (length x.0 ≡ n) × FitBuckets x.0
-unfolding buckets_at
-buckets_at_takes n bytes x fits e =
-    let made : List Bucket × List ℕ = (buckets_from n bytes, drop (6 * n) bytes) in
-    let g = guard_ok (ltb (length bytes) (6 * n)) Short made x e in
-    subst (λ (y : List Bucket × List ℕ). Takes bytes (flat_map bucket_bytes y.0) y.1 × (length y.0 ≡ n) × FitBuckets y.0) g.1 (buckets_take n bytes fits (ltb-false _ _ g.0))
+pub cells_again : {E : Type 0} (missing : E) (rows : ℕ) (cells : Cells) (rest : List ℕ) → AreCells rows cells → cells_at missing rows (cells_bytes cells ++ rest) ≡ Ok (cells, rest)
+unfolding cells_bytes
+cells_again missing rows cells rest are =
+    ap (λ (n : ℕ). cells_at missing n (flat_map bucket_bytes cells.buckets ++ rest)) (sym are.buckets) ∙ buckets_read missing cells.buckets rest are.fit
+
+pub cells_take : {E : Type 0} (missing : E) (rows : ℕ) (bytes : List ℕ) (x : Cells × List ℕ) → IsBytes bytes → cells_at missing rows bytes ≡ Ok x
+    → Takes bytes (cells_bytes x.0) x.1 × AreCells rows x.0
+unfolding cells_at cells_bytes
+cells_take missing rows bytes x fits e =
+    let made : Cells × List ℕ = (cells_of_parts (buckets_from rows bytes), drop (6 * rows) bytes) in
+    let g = guard_ok (ltb (length bytes) (6 * rows)) missing made x e in
+    let t = buckets_take rows bytes fits (ltb-false _ _ g.0) in
+    subst (λ (y : Cells × List ℕ). Takes bytes (cells_bytes y.0) y.1 × AreCells rows y.0) g.1 (t.0, record { buckets = t.1; fit = t.2 })
 
 -- one bucket more
 pub buckets_more : (n : ℕ) (bytes : List ℕ) → buckets_from (suc n) bytes ≡ buckets_from n bytes ++ bucket_from (drop (6 * n) bytes) ∷ []

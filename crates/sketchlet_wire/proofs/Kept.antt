@@ -12,7 +12,7 @@ use Rattle.lg_model.specs.declared.column.Dims.{Dims}
 use Rattle.lg_model.specs.Sketch.{zero_bucket}
 use Rattle.sketchlet_wire.specs.Spelling.{IsAdmitted, IsKept, FitBuckets, zeros, bucket_bytes}
 use Rattle.sketchlet_wire.specs.Reading.{bucket_from, buckets_from}
-use Rattle.sketchlet_wire.proofs.Fields.{fit_front, bucket_len, buckets_len, buckets_more, buckets_from_len}
+use Rattle.sketchlet_wire.proofs.Fields.{fit_front, buckets_len, buckets_more, buckets_from_len}
 
 sub_zeros : (i : ℕ) → i < 8 → drop i zeros ≡ zero_bucket ∷ drop (suc i) zeros
 sub_zeros zero lt = refl
@@ -37,8 +37,7 @@ is_kept key dims buckets ok switch epoch long fits past =
         index = ok.index;
         switch = switch;
         epoch = epoch;
-        buckets = omega (arith, length-take dims.rows buckets);
-        fit = fit_front dims.rows buckets fits;
+        cells = record { buckets = omega (arith, length-take dims.rows buckets); fit = fit_front dims.rows buckets fits };
       };
       zeros = past;
     }
@@ -63,38 +62,49 @@ read_more i bytes kept lt so_far =
     ∙ sym (append_assoc (buckets_from i bytes) (b ∷ []) (drop (suc i) zeros)) ∙ ap (λ (x : List Bucket). x ++ drop (suc i) zeros) (sym (buckets_more i bytes))
     ∙ ap (λ (k : ℕ). buckets_from k bytes ++ drop k zeros) (sym (add-one i))
 
--- one bucket more is written
-pub put_more : (front out old : List ℕ) (b : Bucket) (n k m : ℕ) → length front ≡ n → out ≡ front ++ drop n old → n + 6 ≤ length old → k ≡ length old - n → m ≡ n + 6
-    → put_mid n k out (bucket_bytes b ++ drop 6 (drop n out)) ≡ (front ++ bucket_bytes b) ++ drop m old
-put_more front out old b n k m len so_far fits k-is m-is =
+-- a text is put after what was put, up to the end of the bytes
+pub put_on : (front text out old : List ℕ) (n k t m : ℕ) → length front ≡ n → out ≡ front ++ drop n old → n ≤ length old → k ≡ length old - n → m ≡ n + t
+    → put_mid n k out (text ++ drop t (drop n out)) ≡ (front ++ text) ++ drop m old
+put_on front text out old n k t m len so_far fits k-is m-is =
     let there : drop n out ≡ drop n old = ap (drop n) so_far ∙ drop_at front (drop n old) n len in
     let before : take n out ≡ front = ap (take n) so_far ∙ take_at front (drop n old) n len in
     let same : length out ≡ length old = ap length so_far ∙ omega (arith, length-append front (drop n old), length-drop n old) in
     let past : drop k (drop n out) ≡ [] = nil_from_length (drop k (drop n out)) (omega (arith, length-drop k (drop n out), length-drop n out, same, k-is)) in
-    let end : drop 6 (drop n out) ≡ drop m old = ap (drop 6) there ∙ drop-drop 6 n old ∙ ap (λ (x : ℕ). drop x old) (sym m-is) in
-    ap (λ (x : List ℕ). x ++ ((bucket_bytes b ++ drop 6 (drop n out)) ++ drop k (drop n out))) before
-    ∙ ap (λ (x : List ℕ). front ++ ((bucket_bytes b ++ drop 6 (drop n out)) ++ x)) past
-    ∙ ap (λ (x : List ℕ). front ++ x) (append-nil (bucket_bytes b ++ drop 6 (drop n out)))
-    ∙ ap (λ (x : List ℕ). front ++ (bucket_bytes b ++ x)) end
-    ∙ sym (append_assoc front (bucket_bytes b) (drop m old))
+    let end : drop t (drop n out) ≡ drop m old = ap (drop t) there ∙ drop-drop t n old ∙ ap (λ (x : ℕ). drop x old) (omega (arith, m-is)) in
+    ap (λ (x : List ℕ). x ++ ((text ++ drop t (drop n out)) ++ drop k (drop n out))) before
+    ∙ ap (λ (x : List ℕ). front ++ ((text ++ drop t (drop n out)) ++ x)) past
+    ∙ ap (λ (x : List ℕ). front ++ x) (append-nil (text ++ drop t (drop n out)))
+    ∙ ap (λ (x : List ℕ). front ++ (text ++ x)) end
+    ∙ sym (append_assoc front text (drop m old))
 
-pub encoded_more : (a d k out old new : List ℕ) (bs : List Bucket) (b : Bucket) (i n : ℕ) → n ≡ 14 + 6 * i → length a + (length d + length k) ≡ 14 → i < length bs → i < 8 → b ≡ get_or bs i zero_bucket → length out ≡ 62 → length old ≡ 62
-    → out ≡ (a ++ (d ++ (k ++ flat_map bucket_bytes (take i bs)))) ++ drop (14 + 6 * i) old → new ≡ bucket_bytes b ++ drop 6 (mid_of n (62 - n) out)
-    → (length (put_mid n (62 - n) out new) ≡ 62) × (put_mid n (62 - n) out new ≡ (a ++ (d ++ (k ++ flat_map bucket_bytes (take (i + 1) bs)))) ++ drop (14 + 6 * (i + 1)) old)
-encoded_more a d k out old new bs b i n n-is head lt few b-is out-len old-len so_far new-is =
+-- the same, of what a call left that was lent the bytes from there on
+pub put_there : (front text out old new : List ℕ) (n k t m : ℕ) → length front ≡ n → out ≡ front ++ drop n old → n ≤ length old → k ≡ length old - n → m ≡ n + t
+    → new ≡ text ++ drop t (mid_of n k out) → put_mid n k out new ≡ (front ++ text) ++ drop m old
+put_there front text out old new n k t m len so_far fits k-is m-is new-is =
+    let same : length out ≡ length old = ap length so_far ∙ omega (arith, length-append front (drop n old), length-drop n old, len, fits) in
+    let mid : mid_of n k out ≡ drop n out = take_all k (drop n out) (omega (arith, length-drop n out, same, k-is)) in
+    ap (put_mid n k out) (new-is ∙ ap (λ (x : List ℕ). text ++ drop t x) mid) ∙ put_on front text out old n k t m len so_far fits k-is m-is
+
+-- one bucket more is written
+pub bucket_more : (out old new : List ℕ) (bs : List Bucket) (b : Bucket) (i n k : ℕ) → n ≡ 6 * i → i < length bs → 6 * length bs ≤ length old → k ≡ length old - n → b ≡ get_or bs i zero_bucket
+    → out ≡ flat_map bucket_bytes (take i bs) ++ drop (6 * i) old → new ≡ bucket_bytes b ++ drop 6 (mid_of n k out)
+    → put_mid n k out new ≡ flat_map bucket_bytes (take (i + 1) bs) ++ drop (6 * (i + 1)) old
+bucket_more out old new bs b i n k n-is lt fits k-is b-is so_far new-is =
     let F : List ℕ = flat_map bucket_bytes (take i bs) in
-    let front : List ℕ = a ++ (d ++ (k ++ F)) in
-    let m : ℕ = 14 + 6 * (i + 1) in
-    let len : length front ≡ n = omega (arith, length-append a (d ++ (k ++ F)), length-append d (k ++ F), length-append k F, buckets_len (take i bs), length-take i bs, n-is, head, lt) in
-    let mid : mid_of n (62 - n) out ≡ drop n out = take_all (62 - n) (drop n out) (omega (arith, length-drop n out, out-len)) in
-    let new2 : new ≡ bucket_bytes b ++ drop 6 (drop n out) = new-is ∙ ap (λ (x : List ℕ). bucket_bytes b ++ drop 6 x) mid in
-    let so_far2 : out ≡ front ++ drop n old = so_far ∙ ap (λ (x : ℕ). front ++ drop x old) (sym n-is) in
-    let step = put_more front out old b n (62 - n) m len so_far2 (omega arith) (omega arith) (omega arith) in
+    let len : length F ≡ n = omega (arith, buckets_len (take i bs), length-take i bs, n-is, lt) in
+    let so_far2 : out ≡ F ++ drop n old = so_far ∙ ap (λ (x : ℕ). F ++ drop x old) (sym n-is) in
     let taken : take (i + 1) bs ≡ take i bs ++ b ∷ [] = take_more bs i zero_bucket lt ∙ ap (λ (x : Bucket). take i bs ++ x ∷ []) (sym b-is) in
     let single : flat_map bucket_bytes (b ∷ []) ≡ bucket_bytes b = flat_map-cons bucket_bytes b [] ∙ append-nil (bucket_bytes b) in
     let more : flat_map bucket_bytes (take (i + 1) bs) ≡ F ++ bucket_bytes b = ap (flat_map bucket_bytes) taken ∙ flat_map-append bucket_bytes (take i bs) (b ∷ []) ∙ ap (λ (x : List ℕ). F ++ x) single in
-    let regroup : front ++ bucket_bytes b ≡ a ++ (d ++ (k ++ (F ++ bucket_bytes b))) = simp append_assoc in
-    let whole : put_mid n (62 - n) out new ≡ (a ++ (d ++ (k ++ flat_map bucket_bytes (take (i + 1) bs)))) ++ drop m old =
-    ap (put_mid n (62 - n) out) new2 ∙ step ∙ ap (λ (x : List ℕ). x ++ drop m old) (regroup ∙ ap (λ (x : List ℕ). a ++ (d ++ (k ++ x))) (sym more)) in
-    let whole2 : put_mid n (62 - n) out new ≡ (front ++ bucket_bytes b) ++ drop m old = ap (put_mid n (62 - n) out) new2 ∙ step in
-    (ap length whole2 ∙ omega (arith, length-append (front ++ bucket_bytes b) (drop m old), length-append front (bucket_bytes b), bucket_len b, length-drop m old, len, old-len, n-is), whole)
+    put_there F (bucket_bytes b) out old new n k 6 (6 * (i + 1)) len so_far2 (omega (arith, n-is, lt, fits)) k-is (omega (arith, n-is)) new-is
+    ∙ ap (λ (x : List ℕ). x ++ drop (6 * (i + 1)) old) (sym more)
+
+-- the cells are written after the head
+pub cells_put : (a d key cells out old new : List ℕ) (n : ℕ) → length a + (length d + length key) ≡ 14 → length old ≡ 62 → out ≡ a ++ (d ++ (key ++ drop 14 old))
+    → new ≡ cells ++ drop n (mid_of 14 48 out) → put_mid 14 48 out new ≡ (a ++ (d ++ (key ++ cells))) ++ drop (14 + n) old
+cells_put a d key cells out old new n head old-len so_far new-is =
+    let front : List ℕ = a ++ (d ++ key) in
+    let len : length front ≡ 14 = omega (arith, length-append a (d ++ key), length-append d key, head) in
+    let so_far2 : out ≡ front ++ drop 14 old = so_far ∙ simp append_assoc in
+    let regroup : front ++ cells ≡ a ++ (d ++ (key ++ cells)) = simp append_assoc in
+    put_there front cells out old new 14 48 n (14 + n) len so_far2 (omega (arith, old-len)) (omega (arith, old-len)) refl new-is ∙ ap (λ (x : List ℕ). x ++ drop (14 + n) old) regroup

@@ -1,5 +1,6 @@
 pub mod Fields
 pub mod Columns
+pub mod Shapes
 pub mod Kept
 pub mod Each
 pub mod Same

@@ -1,4 +1,5 @@
 pub mod Spelling
+pub mod ShapeFields
 pub mod Reading
 pub mod Law
 pub mod Uploads

@@ -2,16 +2,17 @@
 use Rattle.std.specs.Prelude.{◌≡◌, ℕ, ◌<◌, ◌≤◌, ◌^◌, Bool, false, ◌&&◌, ◌==◌, List, [], length, take, slice_index_or}
 use Rattle.std.specs.List.{list_any, AllByRecursion}
 use Rattle.lg_model.specs.declared.column.Key.{Key}
+use Rattle.lg_model.specs.declared.limits.TheConstants.{MOST_UPLOAD_COLUMNS}
 use Rattle.lg_model.specs.Columns.{Column}
 use Rattle.sketchlet_wire.specs.Spelling.{IsColumn}
 
 -- Whether two keys are one.
-abbrev pub same_key : Key → Key → Bool
-same_key a b = a.switch == b.switch && (a.epoch == b.epoch && a.index == b.index)
+abbrev pub same_column_key : Key → Key → Bool
+same_column_key a b = a.switch == b.switch && (a.epoch == b.epoch && a.index == b.index)
 
 -- Whether a column of the list has that key.
 abbrev pub holds_key : Key → List Column → Bool
-holds_key key cs = list_any (λ (c : Column). same_key c.key key) cs
+holds_key key cs = list_any (λ (c : Column). same_column_key c.key key) cs
 
 -- The column of no rows, for a position that no column has.
 abbrev pub no_column : Column
@@ -24,7 +25,7 @@ is_twice cs n = holds_key (slice_index_or cs n no_column).key (take n cs)
 -- The columns of an upload: 1 to 16, no two of one key.
 pub record IsUpload (cs : List Column) : Type 0 where
   pub some : 1 ≤ length cs
-  pub few : length cs ≤ 16
+  pub few : length cs ≤ MOST_UPLOAD_COLUMNS
   pub apart : (n : ℕ) → n < length cs → is_twice cs n ≡ false
 
 -- An upload: the host's name, the number of the upload at this host, from 0, and the columns in order.

@@ -24,21 +24,21 @@ two_rows = 0 ∷ 0 ∷ 5 ∷ 220 ∷ 0 ∷ 20 ∷ 0 ∷ 0 ∷ 5 ∷ 220 ∷ 0 �
 abbrev pub with_bytes : (version rows high_width width index : ℕ) → List ℕ
 with_bytes version rows high_width width index = 76 ∷ 71 ∷ version ∷ rows ∷ high_width ∷ width ∷ 0 ∷ 1 ∷ 0 ∷ 0 ∷ 0 ∷ 0 ∷ 0 ∷ index ∷ two_rows
 
-abbrev pub worked_bytes : List ℕ
-worked_bytes = with_bytes 1 2 0 1 0
+abbrev pub worked_spelling : List ℕ
+worked_spelling = with_bytes 1 2 0 1 0
 
-abbrev pub fault : WireFault → Result (Column × ℕ) WireFault
-fault f = Err f
+abbrev pub refused : WireFault → Result (Column × ℕ) WireFault
+refused f = Err f
 
 pub record WorkedBytes : Type 0 where
-  pub spelled : spelling worked ≡ worked_bytes
-  pub read : column_reading worked_bytes ≡ Ok (worked, 26)
-  pub prefixes : map (λ n. column_reading (take n worked_bytes)) (range_with_len 0 26) ≡ replicate 26 (fault Short)
-  pub first_letter : column_reading (0 ∷ []) ≡ fault (NotSketchlet 0)
-  pub second_letter : column_reading (76 ∷ 0 ∷ []) ≡ fault (NotSketchlet 1)
-  pub version : column_reading (with_bytes 2 2 0 1 0) ≡ fault (NotSketchlet 2)
-  pub no_rows : column_reading (with_bytes 1 0 0 1 0) ≡ fault (BadRows 0)
-  pub nine_rows : column_reading (with_bytes 1 9 0 1 0) ≡ fault (BadRows 9)
-  pub no_width : column_reading (with_bytes 1 2 0 0 0) ≡ fault (BadWidth 0)
-  pub wide : column_reading (with_bytes 1 2 16 1 0) ≡ fault (BadWidth 4097)
-  pub index_at_width : column_reading (with_bytes 1 2 0 1 1) ≡ fault (BadIndex 1)
+  pub spelled : spelling worked ≡ worked_spelling
+  pub read : column_reading worked_spelling ≡ Ok (worked, 26)
+  pub prefixes : map (λ n. column_reading (take n worked_spelling)) (range_with_len 0 26) ≡ replicate 26 (refused Short)
+  pub first_letter : column_reading (0 ∷ []) ≡ refused (NotSketchlet 0)
+  pub second_letter : column_reading (76 ∷ 0 ∷ []) ≡ refused (NotSketchlet 1)
+  pub version : column_reading (with_bytes 2 2 0 1 0) ≡ refused (NotSketchlet 2)
+  pub no_rows : column_reading (with_bytes 1 0 0 1 0) ≡ refused (BadRows 0)
+  pub nine_rows : column_reading (with_bytes 1 9 0 1 0) ≡ refused (BadRows 9)
+  pub no_width : column_reading (with_bytes 1 2 0 0 0) ≡ refused (BadWidth 0)
+  pub wide : column_reading (with_bytes 1 2 16 1 0) ≡ refused (BadWidth 4097)
+  pub index_at_width : column_reading (with_bytes 1 2 0 1 1) ≡ refused (BadIndex 1)

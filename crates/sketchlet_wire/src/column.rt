@@ -1,9 +1,10 @@
 //! A column of a sketch.
 ghost use Rattle.std.specs.Prelude.{◌≡◌, ◌<◌, MatchOption, drop, length, replicate, slice_index_or, true};
 ghost use Rattle.lg_model.specs.Sketch.{zero_bucket};
-ghost use Rattle.sketchlet_wire.specs.Spelling.{shown, zeros, IsAdmitted, IsColumn};
+ghost use Rattle.sketchlet_wire.specs.Spelling.{shown, filled, zeros, IsAdmitted, IsColumn};
 
 use crate::ranges::{buckets_fit, key_fits};
+use lg_model::limits::{MOST_ROWS, MOST_WIDTH};
 use lg_model::{Bucket, Dims, Key};
 use std::marker::Model;
 
@@ -27,7 +28,7 @@ impl Model for Column {
 
     ghost invariant = { λ c. IsKept c.key c.dims c.buckets };
 
-    ghost inverse = { λ v. record { key = v.key; dims = v.dims; buckets = filled v.dims v.cells.buckets } };
+    ghost inverse = { λ v. record { key = v.key; dims = v.dims; buckets = filled v.dims v.cells } };
 
     ghost inverse_ok = { λ a h i. record { key = a.key; dims = a.dims; buckets = filled_back a.key a.dims a.buckets h i } };
 }
@@ -39,9 +40,9 @@ impl Column {
         ensures { MatchOption result (IsAdmitted key dims → ⊥) (λ c. IsAdmitted key dims × (c ≡ shown key dims buckets)) }
     {
         if dims.rows < 1
-            || dims.rows > 8
+            || dims.rows > MOST_ROWS
             || dims.width < 1
-            || dims.width > 4096
+            || dims.width > MOST_WIDTH
             || key.index >= dims.width
         {
             return None;
@@ -83,6 +84,13 @@ impl Column {
         ensures { result ≡ slice_index_or self.now.cells.buckets row zero_bucket }
     {
         self.buckets[row as usize]
+    }
+
+    /// The eight buckets that a column is kept with: those of its rows, row 0 first, and zeros past them.
+    pub fn filled(&self) -> &[Bucket; 8]
+        ensures { result.now ≡ filled self.now.dims self.now.cells }
+    {
+        &self.buckets
     }
 
     /// Whether both are one column: the same key, size and buckets.

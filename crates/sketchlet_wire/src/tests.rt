@@ -1,9 +1,11 @@
 //! Sketchlets with known bytes.
 
 use crate::{
-    Bucket, Column, Dims, Key, Packed, Upload, WireFault, decode, encode, holds,
-    spellings_are_apart, worked_bytes,
+    Bucket, Column, Dims, Key, Packed, Upload, WireFault, decode, encode, fields_are_read_back,
+    holds, put_cells, put_key, put_shape, spellings_are_apart, take_cells, take_key, take_shape,
+    worked_bytes,
 };
+use lg_model::{Hash, Shape};
 use std::test::Fail;
 
 // Switch 1, epoch 0, index 0, two rows of width 1, each with the sum 1500 and the maximum 20.
@@ -143,4 +145,69 @@ fn takes_one_to_sixteen_columns(rt: HostRuntime) -> Result<(), Fail> {
         }
     }
     Ok(())
+}
+
+#[test]
+fn puts_and_takes_keys_and_cells(rt: HostRuntime) -> Result<(), Fail> {
+    let column = Column::new(key(0), Dims { rows: 2, width: 1 }, [BUCKET; 8]).ok_or("no column")?;
+    let mut key_bytes = [255; 8];
+    put_key(&mut key_bytes, column.key());
+    assert_eq!(rt; key_bytes.as_slice(), &WORKED[6..14]);
+    let mut cells = [255; 48];
+    assert_eq!(rt; put_cells(&mut cells, &column), 12);
+    let mut want = [255; 48];
+    want[..12].copy_from_slice(&WORKED[14..]);
+    assert_eq!(rt; cells, want);
+    let (read, rest) = take_key(&WORKED[6..], "missing")?;
+    assert_eq!(rt; read, key(0));
+    let (buckets, rest) = take_cells(2, rest, "missing")?;
+    assert_eq!(rt; &buckets, column.filled());
+    assert!(rt; rest.is_empty());
+    assert_eq!(rt; take_key(&WORKED[..7], "missing").err(), Some("missing"));
+    assert_eq!(rt;
+        take_cells(2, &WORKED[..11], "missing").err(),
+        Some("missing")
+    );
+    fields_are_read_back("missing", "bad");
+    Ok(())
+}
+
+#[test]
+fn puts_and_takes_shapes(rt: HostRuntime) {
+    for (hash, kind, seed) in [
+        (Hash::Ports, 0, 0),
+        (Hash::Seed(7), 1, 7),
+        (Hash::Seed(0), 1, 0),
+    ] {
+        let want = [2, 16, 0, kind, 0, 0, 0, 0, 0, 0, 0, seed];
+        let shape = Shape::new(2, 4096, hash);
+        assert!(rt; shape.is_some());
+        if let Some(shape) = shape {
+            let mut out = [255; 12];
+            put_shape(&mut out, &shape);
+            assert_eq!(rt; out, want);
+        }
+        match take_shape(&want, "missing", "bad") {
+            Ok((read, rest)) => {
+                assert_eq!(rt; Some(read), shape);
+                assert!(rt; rest.is_empty());
+            }
+            Err(fault) => assert_eq!(rt; fault, "none"),
+        }
+        for n in 0..12 {
+            assert_eq!(rt; fault_of(&want[..n]), "missing", "{n} bytes");
+        }
+    }
+    for (at, byte) in [(0, 0), (0, 9), (1, 17), (2, 0), (3, 2), (11, 1)] {
+        let mut bytes = [2, 0, 1, 0, 0, 0, 0, 0, 0, 0, 0, 0];
+        bytes[at] = byte;
+        assert_eq!(rt; fault_of(&bytes), "bad", "byte {at} is {byte}");
+    }
+}
+
+fn fault_of(bytes: &[u8]) -> &'static str {
+    match take_shape(bytes, "missing", "bad") {
+        Ok(_) => "none",
+        Err(fault) => fault,
+    }
 }

@@ -6,6 +6,7 @@ ghost use Rattle.sketchlet_wire.specs.Uploads.{holds_key, is_twice, IsUpload, Is
 
 use crate::column::Column;
 use lg_model::Key;
+use lg_model::limits::MOST_UPLOAD_COLUMNS;
 use std::marker::Model;
 
 /// Whether a column of the list has that key. Takes no memory.
@@ -67,7 +68,10 @@ impl Upload {
     pub fn new(host: u16, seq: u32, columns: Vec<Column>) -> Result<Upload, Vec<Column>>
         ensures { MatchResult result (λ u. IsUpload columns.items × (u ≡ upload_of host seq columns.items)) (λ back. (IsUpload columns.items → ⊥) × (back ≡ columns)) }
     {
-        if columns.len() < 1 || columns.len() > 16 || first_twice(&columns).is_some() {
+        if columns.len() < 1
+            || columns.len() > MOST_UPLOAD_COLUMNS
+            || first_twice(&columns).is_some()
+        {
             return Err(columns);
         }
         columns_fit(&columns);

@@ -2,7 +2,7 @@ use Rattle.std.proofs.Common.{◌≡◌, take, drop, length, ◌-◌, ◌*◌, a
 use Rattle.std.proofs.lemmas.List.{take_all, length-drop}
 use Rattle.sketchlet_wire.specs.Reading.{bucket_from}
 use Rattle.sketchlet_wire.proofs.Kept.{read_more}
-use Rattle.sketchlet_wire.proofs.reading.kept_of.Goals as goal
+use Rattle.sketchlet_wire.proofs.cells.kept_of.Goals as goal
 
 pub loop-i-preserved : goal.loop-i-preserved
 loop-i-preserved c =
