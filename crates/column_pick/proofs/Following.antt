@@ -5,12 +5,12 @@ use Rattle.rand_chacha.specs.ChaCha.{ChaCha, of_seed}
 use Rattle.lg_model.specs.declared.scenario.Pick.{Pick}
 use Rattle.lg_model.specs.declared.scenario.Pick.TheVariants as choices
 use Rattle.lg_model.specs.Scenario.{Scenario}
-use Rattle.lg_model.specs.Carrying.{Offer, chance_seed, chance_stream, chance_word, chance_answer, words_on}
+use Rattle.lg_model.specs.Carrying.{Offer, chance_seed, chance_word, chance_answer, words_on, word_of}
 use Rattle.lg_model.proofs.Choosing.{Follows}
 use Rattle.column_pick.specs.declared.any_picker.AnyPicker.{AnyPicker}
 use Rattle.column_pick.specs.declared.any_picker.AnyPicker.TheVariants.{Turns, Chance}
-use Rattle.column_pick.specs.Picks.{AnyPicks, fresh, after_offers}
-use Rattle.column_pick.specs.Laws.{word_of, LawOfTheWords, IsNextOffer, LawOfTheOffers}
+use Rattle.column_pick.specs.Picks.{AnyPicks, fresh, after_offers, chance_stream}
+use Rattle.column_pick.specs.Laws.{LawOfTheWords, IsNextOffer, LawOfTheOffers}
 
 -- one word more
 one_on : (k : ℕ) (g : ChaCha) → words_on 1 (words_on k g) ≡ words_on (k + 1) g
@@ -52,7 +52,7 @@ next_offer choices.Turns name offers hops offer said (Turns after) few picks =
 next_offer choices.Turns name offers hops offer said (Chance after) few picks = absurd picks
 next_offer (choices.Chance n) name offers hops offer said (Turns after) few picks = absurd picks
 next_offer (choices.Chance n) name offers hops offer said (Chance after) few picks =
-    record { answer = picks.answer; next = ap Chance (picks.next ∙ offer_on n name offers) }
+    record { answer = picks.answer ∙ words n name offers hops offer; next = ap Chance (picks.next ∙ offer_on n name offers) }
 
 pub offers : LawOfTheOffers
 offers = record { first = fresh_is_unoffered; each = next_offer }

@@ -1,20 +1,14 @@
 -- The laws of the pickers.
 use Rattle.std.specs.Prelude.{◌≡◌, ℕ, ◌+◌, ◌-◌, ◌*◌, ◌^◌, ◌<◌, Option}
-use Rattle.rand_chacha.specs.ChaCha.{of_seed}
 use Rattle.lg_model.specs.declared.scenario.Pick.{Pick}
 use Rattle.lg_model.specs.declared.scenario.Pick.TheVariants as choices
-use Rattle.lg_model.specs.Carrying.{Offer, chance_seed, chance_word, words_on, chance_answer, chosen}
+use Rattle.lg_model.specs.Carrying.{Offer, chosen}
 use Rattle.column_pick.specs.declared.any_picker.AnyPicker.{AnyPicker}
-use Rattle.column_pick.specs.Picks.{AnyPicks, fresh, after_offers}
+use Rattle.column_pick.specs.Picks.{AnyPicks, fresh, after_offers, chance_stream, stream_answer}
 
--- The word of that number, from 0, of the stream of the switch of that name under the number n.
-abbrev pub word_of : (n name k : ℕ) → ℕ
-word_of n name k = chance_word (words_on k (of_seed (chance_seed n name)))
-
--- By chance the offer of number a has the words 3a, 3a + 1 and 3a + 2.
+-- A stream from which each offer takes three words gives the offer of number a what the definition chooses.
 abbrev pub LawOfTheWords : Type 0
-LawOfTheWords = (n name a hops : ℕ) (offer : Offer) →
-    chosen (choices.Chance n) name a hops offer ≡ chance_answer hops offer (word_of n name (3 * a)) (word_of n name (3 * a + 1)) (word_of n name (3 * a + 2))
+LawOfTheWords = (n name a hops : ℕ) (offer : Offer) → stream_answer hops offer (chance_stream n name a) ≡ chosen (choices.Chance n) name a hops offer
 
 -- An answer of a picker that was offered so often is the choice of the switch of that name, and the picker goes on to
 -- what it is after one offer more.

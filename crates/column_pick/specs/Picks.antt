@@ -1,9 +1,9 @@
 -- What the pickers answer, and what they are after it.
-use Rattle.std.specs.Prelude.{◌≡◌, ℕ, ◌+◌, ◌-◌, ◌^◌, nat_lt, List, [], ◌∷◌, drop, min, Option, None, Some, if◌then◌else◌}
+use Rattle.std.specs.Prelude.{◌≡◌, ℕ, ◌+◌, ◌-◌, ◌*◌, ◌^◌, nat_lt, List, [], ◌∷◌, drop, min, Option, None, Some, if◌then◌else◌}
 use Rattle.rand_chacha.specs.ChaCha.{ChaCha, of_seed}
 use Rattle.lg_model.specs.declared.scenario.Pick.{Pick}
 use Rattle.lg_model.specs.declared.scenario.Pick.TheVariants as choices
-use Rattle.lg_model.specs.Carrying.{Offer, turns_answer, chance_seed, chance_stream, words_on, stream_answer}
+use Rattle.lg_model.specs.Carrying.{Offer, turns_answer, chance_seed, chance_word, words_on, chance_answer}
 use Rattle.column_pick.specs.declared.any_picker.AnyPicker.{AnyPicker}
 use Rattle.column_pick.specs.declared.any_picker.AnyPicker.TheVariants.{Turns, Chance}
 
@@ -12,7 +12,15 @@ pub record TurnsPicks (before hops : ℕ) (offer : Offer) (said : Option ℕ) (a
   pub answer : said ≡ turns_answer before hops offer
   pub next : after ≡ min (before + 1) (2 ^ 64 - 1)
 
--- By chance: the answer by the next three words of the stream, and the stream behind them.
+-- The stream of a switch after that many offers: three words an offer.
+abbrev pub chance_stream : (n name offers : ℕ) → ChaCha
+chance_stream n name offers = words_on (3 * offers) (of_seed (chance_seed n name))
+
+-- The answer by the next three words of a stream.
+abbrev pub stream_answer : (hops : ℕ) → Offer → ChaCha → Option ℕ
+stream_answer hops offer g = chance_answer hops offer (chance_word g) (chance_word (words_on 1 g)) (chance_word (words_on 1 (words_on 1 g)))
+
+-- By chance: the answer by the next three words of the stream, and the stream after them.
 pub record ChancePicks (before : ChaCha) (hops : ℕ) (offer : Offer) (said : Option ℕ) (after : ChaCha) : Type 0 where
   pub answer : said ≡ stream_answer hops offer before
   pub next : after ≡ words_on 1 (words_on 1 (words_on 1 before))
@@ -27,7 +35,7 @@ abbrev pub next_answer : List (Option ℕ) → Option ℕ
 next_answer [] = Some 0
 next_answer (said ∷ more) = said
 
--- By a script: its next answer, as far as it is allowed, and the answers behind it.
+-- By a script: its next answer, as far as it is allowed, and the answers after it.
 pub record ScriptPicks (before : List (Option ℕ)) (hops : ℕ) (offer : Offer) (said : Option ℕ) (after : List (Option ℕ)) : Type 0 where
   pub answer : said ≡ allowed hops offer (next_answer before)
   pub next : after ≡ drop 1 before

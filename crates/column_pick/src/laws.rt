@@ -1,7 +1,7 @@
 //! Laws over the pickers' definitions, each on a function with an empty body.
 ghost use Rattle.column_pick.specs.Laws.{LawOfTheOffers, LawOfTheWords};
 
-/// An offer by chance takes three words, so the offer of number a has the words 3a, 3a + 1 and 3a + 2
+/// A stream from which each offer takes three words gives every offer what the scenario chooses by chance
 /// (docs/DEFINITIONS.md, Picked list).
 pub fn words_by_offers()
     ensures { LawOfTheWords }

@@ -1,5 +1,5 @@
 -- Whatever lawful pickers answer is allowed.
-use Rattle.std.specs.Prelude.{◌≡◌, ◌≢◌, ℕ, ◌+◌, ◌-◌, ◌<◌, ◌≤◌, ◌⊎◌, Bool, true, false, not, ◌&&◌, ◌==◌, nat_lt, cond, fold, count_by, ◌%◌, List, [], ◌∷◌, ◌++◌, map, take, length, Option, Some, None, IfSome, IfNone, slice_index, slice_index_or, slice_get, All, Any}
+use Rattle.std.specs.Prelude.{◌≡◌, ◌≢◌, ℕ, ◌+◌, ◌-◌, ◌*◌, ◌<◌, ◌≤◌, ◌⊎◌, Bool, true, false, not, ◌&&◌, ◌==◌, nat_lt, cond, fold, count_by, ◌%◌, List, [], ◌∷◌, ◌++◌, map, take, length, Option, Some, None, IfSome, IfNone, slice_index, slice_index_or, slice_get, All, Any}
 use Rattle.std.specs.List.{enumerate_from, flat_map}
 use Rattle.std.specs.List.Sorted.{IsStrictlyIncreasing}
 use Rattle.std.proofs.Common.{refl, sym, ap, ◌∙◌, subst, arith, inl, inr, append_assoc, append-nil, rules, tests, eq-eqb}
@@ -14,7 +14,7 @@ use Rattle.lg_model.specs.Trace.{Packet, Meeting, packets, meeting_of, meetings_
 use Rattle.std.proofs.Math.Nat.{mod-lt, mod-one}
 use Rattle.lg_model.specs.declared.scenario.Pick.{Pick}
 use Rattle.lg_model.specs.declared.scenario.Pick.TheVariants.{Turns, Chance}
-use Rattle.lg_model.specs.Carrying.{Carry, IsCarriedAt, IsAllowed, LawOfThePickedList, Offer, hops_left, carries, is_offered, offer_at, carry_at, with_choice, Picking, chosen, chosen_at, pick_at, picked, candidate, chance_stream, chance_word, words_on}
+use Rattle.lg_model.specs.Carrying.{Carry, IsCarriedAt, IsAllowed, LawOfThePickedList, Offer, hops_left, carries, is_offered, offer_at, carry_at, with_choice, Picking, chosen, chosen_at, pick_at, picked, candidate, word_of}
 use Rattle.lg_model.specs.Runs.{Runs}
 use Rattle.lg_model.specs.Offering.{Picks, IsLawful, Offering, offering, IsOffered, IsPick}
 use Rattle.lg_model.proofs.Tracing.{meetings_on}
@@ -246,10 +246,9 @@ candidate_low offer y z wide =
 chosen_is_lawful : (pick : Pick) (name offers hops : ℕ) (offer : Offer) → 1 ≤ hops → 0 < offer.width → IsLawful hops offer (chosen pick name offers hops offer)
 chosen_is_lawful Turns name offers hops offer some wide = lawful_where offers hops (offer.put % offer.width) offer some (mod-lt offer.put wide)
 chosen_is_lawful (Chance n) name offers hops offer some wide =
-    let g = chance_stream n name offers in
-    let y = chance_word (words_on 1 g) in
-    let z = chance_word (words_on 1 (words_on 1 g)) in
-    lawful_where (chance_word g) hops (candidate offer y z) offer some (candidate_low offer y z wide)
+    let y = word_of n name (3 * offers + 1) in
+    let z = word_of n name (3 * offers + 2) in
+    lawful_where (word_of n name (3 * offers)) hops (candidate offer y z) offer some (candidate_low offer y z wide)
 
 picks_one : (w : Scenario) (k : Picking) (m : Meeting) → 0 < w.shape.width → IsLoading w m k.carried (pick_at w k m).carried
 picks_one w k m wide =

@@ -99,9 +99,9 @@ chance_word g = word_at 4 g.key g.stream g.word_pos
 abbrev pub words_on : ℕ → ChaCha → ChaCha
 words_on k g = record g { word_pos = (g.word_pos + k) % 2 ^ 68 }
 
--- The stream of a switch when it has been offered that often: three words an offer.
-abbrev pub chance_stream : (n name offers : ℕ) → ChaCha
-chance_stream n name offers = words_on (3 * offers) (of_seed (chance_seed n name))
+-- The word of that number, from 0, of the stream of the switch of that name.
+abbrev pub word_of : (n name k : ℕ) → ℕ
+word_of n name k = chance_word (words_on k (of_seed (chance_seed n name)))
 
 -- Of two candidates the one that is put out less often, and the first where they are level.
 abbrev pub candidate : Offer → (y z : ℕ) → ℕ
@@ -112,13 +112,12 @@ candidate offer y z =
 abbrev pub chance_answer : (hops : ℕ) → Offer → (x y z : ℕ) → Option ℕ
 chance_answer hops offer x y z = if x % hops == 0 then Some (candidate offer y z) else None
 
-abbrev pub stream_answer : (hops : ℕ) → Offer → ChaCha → Option ℕ
-stream_answer hops offer g = chance_answer hops offer (chance_word g) (chance_word (words_on 1 g)) (chance_word (words_on 1 (words_on 1 g)))
-
 -- The answer of the switch of that name at its offer of that number, from 0, with that many hops left.
+-- By chance the offer of number a has the words 3a, 3a + 1 and 3a + 2.
 abbrev pub chosen : Pick → (name offers hops : ℕ) → Offer → Option ℕ
 chosen Turns name offers hops offer = turns_answer offers hops offer
-chosen (Chance n) name offers hops offer = stream_answer hops offer (chance_stream n name offers)
+chosen (Chance n) name offers hops offer =
+    chance_answer hops offer (word_of n name (3 * offers)) (word_of n name (3 * offers + 1)) (word_of n name (3 * offers + 2))
 
 -- The switches that were offered so far, by position, and what is carried so far.
 pub record Picking : Type 0 where
