@@ -11,8 +11,8 @@ use Rattle.std.proofs.lemmas.Map.Lookups.{exact_pairs, exact_unsigned}
 use Rattle.lg_model.specs.declared.column.Dims.{Dims}
 use Rattle.lg_model.specs.declared.column.Key.{Key}
 use Rattle.lg_model.specs.Answer.{key_cmp, Content}
-use Rattle.sketchlet_wire.specs.Spelling.{ColumnData}
-use Rattle.column_book.specs.Kept.{Entries, key_and_buckets, content_in, AreEntries}
+use Rattle.lg_model.specs.Columns.{Column}
+use Rattle.column_book.specs.Kept.{Entries, key_and_cells, content_in, AreEntries}
 
 -- two keys that compare as equal are one
 pub one_key : (a b : Key) → key_cmp a b ≡ Equal → a ≡ b
@@ -22,28 +22,28 @@ one_key a b h =
     ap {B = Key} (λ (p : ℕ × (ℕ × ℕ)). record { switch = p.0; epoch = p.1.0; index = p.1.1 }) pairs
 
 -- the content after an insertion
-pub content_in-insert : (cmp : Key → Key → Ordering) (es : Entries) (k : Key) (c : ColumnData) →
-    content_in (insert_entry cmp es k c) ≡ insert_entry cmp (content_in es) k c.buckets
+pub content_in-insert : (cmp : Key → Key → Ordering) (es : Entries) (k : Key) (c : Column) →
+    content_in (insert_entry cmp es k c) ≡ insert_entry cmp (content_in es) k c.cells
 content_in-insert cmp [] k c = refl
 content_in-insert cmp (e ∷ es) k c = (elim (cmp k e.0) as (λ o.
     content_in (match_ordering o ((k, c) ∷ e ∷ es) ((e.0, c) ∷ es) (e ∷ insert_entry cmp es k c))
-    ≡ match_ordering o ((k, c.buckets) ∷ content_in (e ∷ es)) ((e.0, c.buckets) ∷ content_in es) (key_and_buckets e ∷ insert_entry cmp (content_in es) k c.buckets)) [
+    ≡ match_ordering o ((k, c.cells) ∷ content_in (e ∷ es)) ((e.0, c.cells) ∷ content_in es) (key_and_cells e ∷ insert_entry cmp (content_in es) k c.cells)) [
       | Less ↦ refl
       | Equal ↦ refl
-      | Greater ↦ ap (λ (fs : Content). key_and_buckets e ∷ fs) (content_in-insert cmp es k c)
+      | Greater ↦ ap (λ (fs : Content). key_and_cells e ∷ fs) (content_in-insert cmp es k c)
     ])
 
 -- what is found in the content
-pub found-content_in : (test : Key → Bool) (es : Entries) → option_map (λ (c : ColumnData). c.buckets) (lookup test es) ≡ lookup test (content_in es)
+pub found-content_in : (test : Key → Bool) (es : Entries) → option_map (λ (c : Column). c.cells) (lookup test es) ≡ lookup test (content_in es)
 found-content_in test [] = refl
 found-content_in test (e ∷ es) = (elim (test e.0) as (λ b.
-    option_map (λ (c : ColumnData). c.buckets) (cond b (Some e.1) (lookup test es)) ≡ cond b (Some e.1.buckets) (lookup test (content_in es))) [
+    option_map (λ (c : Column). c.cells) (cond b (Some e.1) (lookup test es)) ≡ cond b (Some e.1.cells) (lookup test (content_in es))) [
       | true ↦ refl
       | false ↦ found-content_in test es
     ])
 
 -- an inserted column stands under its own key
-pub AreEntries-insert : (size : Dims) (es : Entries) (c : ColumnData) → AreEntries size es → c.dims ≡ size → AreEntries size (insert_entry key_cmp es c.key c)
+pub AreEntries-insert : (size : Dims) (es : Entries) (c : Column) → AreEntries size es → c.dims ≡ size → AreEntries size (insert_entry key_cmp es c.key c)
 AreEntries-insert size [] c all is = (record { key = refl; dims = is }, tt)
 AreEntries-insert size (e ∷ es) c all is = (elim (key_cmp c.key e.0) as (λ o. key_cmp c.key e.0 ≡ o → AreEntries size (match_ordering o ((c.key, c) ∷ e ∷ es) ((e.0, c) ∷ es) (e ∷ insert_entry key_cmp es c.key c))) [
   | Less ↦ λ same. (record { key = refl; dims = is }, all)

@@ -1,8 +1,8 @@
-//! The book of a host (docs/DEFINITIONS.md, Answer).
+//! The analyser's book (docs/DEFINITIONS.md, Content).
 ghost use Rattle.std.specs.Prelude.{◌≡◌, [], length, OnOk, OnErr, IfSome};
 ghost use Rattle.std.specs.Option.{option_map};
 ghost use Rattle.lg_model.specs.Answer.{with_column, found};
-ghost use Rattle.sketchlet_wire.specs.Carried.{dims_of};
+ghost use Rattle.lg_model.specs.Columns.{dims_of};
 
 use lg_base::Memory;
 use lg_model::Key;
@@ -12,7 +12,7 @@ use std::alloc::Global;
 use std::collections::BTreeMap;
 use std::marker::Model;
 
-/// The columns that came to a host, of sketches of one shape, each under its key. Contracts see it as its shape and
+/// The columns that arrived at the hosts, of sketches of one shape, each under its key. Contracts see it as its shape and
 /// its content.
 #[derive(Drop)]
 pub struct Book {
@@ -21,7 +21,7 @@ pub struct Book {
 }
 
 impl Model for Book {
-    ghost use Rattle.sketchlet_wire.specs.Carried.{dims_of};
+    ghost use Rattle.lg_model.specs.Columns.{dims_of};
     ghost use Rattle.column_book.specs.Kept.{BookState, content_in, AreEntries};
 
     ghost Value = { BookState };
@@ -46,7 +46,7 @@ impl Book {
     /// as it was.
     pub fn keep(&mut self, column: &Column) -> Result<(), Memory>
         requires { column.now.dims ≡ dims_of self.old.shape }
-        ensures kept { OnOk result (self.new ≡ record self.old { content = with_column self.old.content (record { key = column.now.key; buckets = column.now.buckets }) }) }
+        ensures kept { OnOk result (self.new ≡ record self.old { content = with_column self.old.content column.now }) }
         ensures unchanged { OnErr result (self.new ≡ self.old) }
     {
         self.columns.insert(column.key(), *column)?;
@@ -55,7 +55,7 @@ impl Book {
 
     /// The column under a key. None exactly where none is kept there.
     pub fn find(&self, key: &Key) -> Option<Column>
-        ensures buckets { option_map (λ c. c.buckets) result ≡ found self.now.content key.now }
+        ensures cells { option_map (λ c. c.cells) result ≡ found self.now.content key.now }
         ensures named { IfSome result (λ c. (c.key ≡ key.now) × (c.dims ≡ dims_of self.now.shape)) }
     {
         self.columns.get(key).copied()

@@ -1,4 +1,4 @@
-//! The book of a host: the columns that came to it, each under its key.
+//! The analyser's book: the columns that arrived at the hosts, each under its key.
 //!
 //! | Item | What it is |
 //! |---|---|

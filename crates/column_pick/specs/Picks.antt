@@ -7,7 +7,7 @@ use Rattle.lg_model.specs.Carrying.{Offer, turns_answer, chance_seed, chance_str
 use Rattle.column_pick.specs.declared.any_picker.AnyPicker.{AnyPicker}
 use Rattle.column_pick.specs.declared.any_picker.AnyPicker.TheVariants.{Turns, Chance}
 
--- By turns: the answer at the ask of that number, from 0, and the number of the next ask, at most 2^64 - 1.
+-- By turns: the answer at the offer of that number, from 0, and the number of the next offer, at most 2^64 - 1.
 pub record TurnsPicks (before hops : ℕ) (offer : Offer) (said : Option ℕ) (after : ℕ) : Type 0 where
   pub answer : said ≡ turns_answer before hops offer
   pub next : after ≡ min (before + 1) (2 ^ 64 - 1)
@@ -39,12 +39,12 @@ AnyPicks (Turns before) hops offer said (Chance after) = ⊥
 AnyPicks (Chance before) hops offer said (Turns after) = ⊥
 AnyPicks (Chance before) hops offer said (Chance after) = ChancePicks before hops offer said after
 
--- The picker of the switch of that name, before it is asked.
+-- The picker of the switch of that name, before it is offered.
 abbrev pub fresh : Pick → (name : ℕ) → AnyPicker
 fresh choices.Turns name = Turns 0
 fresh (choices.Chance n) name = Chance (of_seed (chance_seed n name))
 
--- The picker of the switch of that name after so many asks.
-abbrev pub after_asks : Pick → (name asks : ℕ) → AnyPicker
-after_asks choices.Turns name asks = Turns asks
-after_asks (choices.Chance n) name asks = Chance (chance_stream n name asks)
+-- The picker of the switch of that name after so many offers.
+abbrev pub after_offers : Pick → (name offers : ℕ) → AnyPicker
+after_offers choices.Turns name offers = Turns offers
+after_offers (choices.Chance n) name offers = Chance (chance_stream n name offers)

@@ -18,7 +18,7 @@ pub enum AnyPicker {
 }
 
 impl AnyPicker {
-    /// The picker, asked nothing so far, of the switch of that name under a scenario's choice.
+    /// The picker, offered nothing so far, of the switch of that name under a scenario's choice.
     pub fn new(pick: Pick, switch: u16) -> AnyPicker
         ensures { result ≡ fresh pick switch }
     {

@@ -2,7 +2,7 @@
 ghost use Rattle.std.specs.Prelude.{◌≡◌, ◌<◌};
 ghost use Rattle.rand_chacha.specs.ChaCha.{of_seed};
 ghost use Rattle.lg_model.specs.Carrying.{candidate, chance_seed, chance_word, words_on};
-ghost use Rattle.lg_model.specs.Twin.{offer_of};
+ghost use Rattle.lg_model.specs.TwinsState.{offer_of};
 ghost use Rattle.column_pick.specs.Picks.{ChancePicks};
 
 use crate::picker::Picker;
@@ -12,7 +12,7 @@ use rand_core::SeedableRng;
 use rand_core::utils::NextWord;
 use std::marker::Model;
 
-/// Gives columns by chance. Each ask draws three words of 32 bits. A column is given exactly where the hops left divide
+/// Gives columns by chance. Each offer draws three words of 32 bits. A column is given exactly where the hops left divide
 /// the first. The second and the third, modulo the width, are two candidates: the one that was put out less often since
 /// the last end is taken, and at a tie the first. Contracts see the generator, which is at the next word.
 #[derive(Drop)]

@@ -3,7 +3,7 @@
 //! | Item | What it is |
 //! |---|---|
 //! | [`Picker`] | what every picker does |
-//! | [`Turns`] | gives the columns one after the other, at every so many asks |
+//! | [`Turns`] | gives the columns one after the other, at every so many offers |
 //! | [`Chance`] | gives columns by the words of a random stream |
 //! | [`Script`] | gives the answers of a list |
 //! | [`AnyPicker`] | a picker by turns or by chance |
@@ -20,7 +20,7 @@ mod turns;
 
 pub use any_picker::AnyPicker;
 pub use chance::Chance;
-pub use laws::{answers_by_asks, words_by_asks};
+pub use laws::{answers_by_offers, words_by_offers};
 pub use picker::Picker;
 pub use script::Script;
 pub use turns::Turns;

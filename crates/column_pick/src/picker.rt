@@ -1,8 +1,9 @@
 //! What every picker does (docs/DEFINITIONS.md, Picked list).
 ghost use Rattle.std.specs.Prelude.{◌<◌, ◌≤◌, ℕ, Option};
-ghost use Rattle.lg_model.specs.Asking.{IsLawful};
+ghost use Rattle.lg_model.specs.declared.limits.TheConstants.{MOST_HOPS};
+ghost use Rattle.lg_model.specs.Offering.{IsLawful};
 ghost use Rattle.lg_model.specs.Carrying.{Offer};
-ghost use Rattle.lg_model.specs.Twin.{offer_of};
+ghost use Rattle.lg_model.specs.TwinsState.{offer_of};
 
 use epoch_freeze::Twins;
 
@@ -17,7 +18,7 @@ pub trait Picker {
     fn pick(&mut self, hops_left: u8, twins: &Twins) -> Option<u16>
         requires frozen { 0 < twins.now.epoch }
         requires some { 1 ≤ hops_left }
-        requires few { hops_left ≤ 16 }
+        requires few { hops_left ≤ MOST_HOPS }
         ensures lawful { IsLawful hops_left (offer_of twins.now) result }
         ensures picks { picks self.old hops_left (offer_of twins.now) result self.new };
 }

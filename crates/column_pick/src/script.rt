@@ -6,7 +6,7 @@ use crate::picker::Picker;
 use epoch_freeze::Twins;
 use std::marker::Model;
 
-/// Gives its answers in order, one an ask, and `Some(0)` when they are used up. An answer that is not allowed, which is
+/// Gives its answers in order, one an offer, and `Some(0)` when they are used up. An answer that is not allowed, which is
 /// an index that is not below the width, or None at the last hop, is replaced by `Some(0)`. Contracts see the answers
 /// that are left.
 #[derive(Debug, Drop)]

@@ -1,4 +1,4 @@
-use crate::{AnyPicker, Chance, Picker, Script, Turns, answers_by_asks, words_by_asks};
+use crate::{AnyPicker, Chance, Picker, Script, Turns, answers_by_offers, words_by_offers};
 use epoch_freeze::Twins;
 use lg_model::Pick;
 use row_hash::{Hash, Shape};
@@ -15,7 +15,7 @@ fn ended_twins<R: Abort>(rt: &R, alloc: Global, width: u16) -> Result<Twins, Fai
 }
 
 // Asks a picker, and puts out the column that it gives.
-fn ask<R: Abort, P: Picker>(
+fn offer<R: Abort, P: Picker>(
     rt: &R,
     picker: &mut P,
     hops_left: u8,
@@ -41,7 +41,7 @@ const TURNS: [(u8, Option<u16>); 9] = [
     (1, Some(2)),
 ];
 
-// The answers to asks with these hops left, at 4,096 indexes, from a ChaCha8 in another language.
+// The answers to offers with these hops left, at 4,096 indexes, from a ChaCha8 in another language.
 const HOPS: [u8; 12] = [3, 2, 1, 3, 2, 1, 3, 2, 1, 3, 2, 1];
 
 const SEED_7_SWITCH_1: [Option<u16>; 12] = [
@@ -64,16 +64,16 @@ fn picks_by_turns(rt: HostRuntime) -> Result<(), Fail> {
     let mut twins = ended_twins(&rt, rt.alloc(), 3)?;
     let mut turns = Turns::new();
     for (hops_left, want) in TURNS {
-        assert_eq!(rt; ask(&rt, &mut turns, hops_left, &mut twins), want);
+        assert_eq!(rt; offer(&rt, &mut turns, hops_left, &mut twins), want);
     }
 
-    // The count of asks goes on behind the end of an epoch, and the columns begin anew.
+    // The count of offers goes on behind the end of an epoch, and the columns begin anew.
     assert!(rt; twins.epoch() < 2);
     twins.end();
     for (hops_left, want) in [(2, None), (5, Some(0)), (1, Some(1))] {
-        assert_eq!(rt; ask(&rt, &mut turns, hops_left, &mut twins), want);
+        assert_eq!(rt; offer(&rt, &mut turns, hops_left, &mut twins), want);
     }
-    answers_by_asks();
+    answers_by_offers();
     Ok(())
 }
 
@@ -82,9 +82,9 @@ fn picks_by_chance(rt: HostRuntime) -> Result<(), Fail> {
     let mut twins = ended_twins(&rt, rt.alloc(), 4096)?;
     let mut chance = Chance::new(7, 1);
     for (hops_left, want) in HOPS.into_iter().zip(SEED_7_SWITCH_1) {
-        assert_eq!(rt; ask(&rt, &mut chance, hops_left, &mut twins), want);
+        assert_eq!(rt; offer(&rt, &mut chance, hops_left, &mut twins), want);
     }
-    words_by_asks();
+    words_by_offers();
     Ok(())
 }
 
@@ -99,7 +99,7 @@ fn chance_prefers_the_less_used(rt: HostRuntime) -> Result<(), Fail> {
         let mut twins = ended_twins(&rt, rt.alloc(), 2)?;
         let mut chance = Chance::new(seed, switch);
         for want in wants {
-            let got = ask(&rt, &mut chance, 1, &mut twins);
+            let got = offer(&rt, &mut chance, 1, &mut twins);
             assert_eq!(rt; got, Some(want), "seed {seed}");
         }
     }
@@ -120,7 +120,7 @@ fn a_script_is_kept_within_the_law(rt: HostRuntime) -> Result<(), Fail> {
         (16, Some(0)),
         (16, Some(0)),
     ] {
-        assert_eq!(rt; ask(&rt, &mut script, hops_left, &mut twins), want);
+        assert_eq!(rt; offer(&rt, &mut script, hops_left, &mut twins), want);
     }
     Ok(())
 }
@@ -130,13 +130,13 @@ fn picks_as_a_scenario_says(rt: HostRuntime) -> Result<(), Fail> {
     let mut twins = ended_twins(&rt, rt.alloc(), 3)?;
     let mut picker = AnyPicker::new(Pick::Turns, 1);
     for (hops_left, want) in TURNS {
-        assert_eq!(rt; ask(&rt, &mut picker, hops_left, &mut twins), want);
+        assert_eq!(rt; offer(&rt, &mut picker, hops_left, &mut twins), want);
     }
 
     let mut twins = ended_twins(&rt, rt.alloc(), 4096)?;
     let mut picker = AnyPicker::new(Pick::Chance(7), 1);
     for (hops_left, want) in HOPS.into_iter().zip(SEED_7_SWITCH_1) {
-        assert_eq!(rt; ask(&rt, &mut picker, hops_left, &mut twins), want);
+        assert_eq!(rt; offer(&rt, &mut picker, hops_left, &mut twins), want);
     }
     Ok(())
 }

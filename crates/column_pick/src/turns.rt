@@ -6,12 +6,12 @@ use crate::picker::Picker;
 use epoch_freeze::Twins;
 use std::marker::Model;
 
-/// Gives a column at each ask whose number, from 0 over the whole run, is divided by the hops left. Its index is the
+/// Gives a column at each offer whose number, from 0 over the whole run, is divided by the hops left. Its index is the
 /// number of columns that were put out since the last end, modulo the width: the indexes one after the other. Contracts
-/// see the number of asks so far, which stays at its last value, 2^64 - 1.
+/// see the number of offers so far, which stays at its last value, 2^64 - 1.
 #[derive(Debug, Drop)]
 pub struct Turns {
-    asks: u64,
+    offers: u64,
 }
 
 impl Model for Turns {
@@ -19,15 +19,15 @@ impl Model for Turns {
 
     ghost Value = { ℕ };
 
-    ghost view = { λ t. t.asks };
+    ghost view = { λ t. t.offers };
 }
 
 impl Turns {
-    /// The picker that was asked nothing so far.
+    /// The picker that was offered nothing so far.
     pub fn new() -> Turns
         ensures { result ≡ 0 }
     {
-        Turns { asks: 0 }
+        Turns { offers: 0 }
     }
 }
 
@@ -35,9 +35,9 @@ impl Picker for Turns {
     ghost picks = { TurnsPicks };
 
     fn pick(&mut self, hops_left: u8, twins: &Twins) -> Option<u16> {
-        let asks = self.asks;
-        self.asks = asks.saturating_add(1);
-        if asks % u64::from(hops_left) != 0 {
+        let offers = self.offers;
+        self.offers = offers.saturating_add(1);
+        if offers % u64::from(hops_left) != 0 {
             return None;
         }
         Some((twins.put_count() % u32::from(twins.width())) as u16)

@@ -4,10 +4,13 @@
 //! | Item | What it is |
 //! |---|---|
 //! | [`Twins`] | the two sketches, the epoch, and how often each column of the frozen one was put out |
+//! | [`epochs_are_told`] | the law: what the two are after any list of packets and ends |
 #![tactic(auto)]
 
+mod laws;
 #[cfg(test)]
 mod tests;
 mod twins;
 
+pub use laws::epochs_are_told;
 pub use twins::Twins;

@@ -1,8 +1,9 @@
 //! The sketches of a switch and its epochs (docs/DEFINITIONS.md, Twins).
 ghost use Rattle.std.specs.Prelude.{◌≡◌, ◌<◌, ◌≤◌, ◌-◌, ◌^◌, length, slice_index, All, IfOk, IfSome, IfNone, MatchOption};
+ghost use Rattle.lg_model.specs.declared.limits.TheConstants.{MOST_ENDS};
 ghost use Rattle.lg_model.specs.Placing.{IsShape};
 ghost use Rattle.lg_model.specs.Sketch.{raise};
-ghost use Rattle.lg_model.specs.Twin.{Twin, new_twin, with_put, with_end};
+ghost use Rattle.lg_model.specs.TwinsState.{TwinsState, new_twins, with_put, with_end};
 
 use lg_base::Memory;
 use row_hash::{Places, Shape};
@@ -23,10 +24,10 @@ pub struct Twins {
 }
 
 impl Model for Twins {
-    ghost use Rattle.lg_model.specs.Twin.{Twin};
+    ghost use Rattle.lg_model.specs.TwinsState.{TwinsState};
     ghost use Rattle.epoch_freeze.specs.Paired.{ArePaired};
 
-    ghost Value = { Twin };
+    ghost Value = { TwinsState };
 
     ghost view = { λ t. record { shape = t.shape; epoch = t.epoch; current = t.current.table; frozen = t.frozen.table; put = t.put; times = t.times.items } };
 
@@ -37,7 +38,7 @@ impl Twins {
     /// The twins of epoch 0, in which nothing is counted or frozen. Memory where there is none for the two sketches
     /// and the counts.
     pub fn new(alloc: Global, shape: &Shape) -> Result<Twins, Memory>
-        ensures { IfOk result (λ t. t ≡ new_twin shape.now) }
+        ensures { IfOk result (λ t. t ≡ new_twins shape.now) }
     {
         let current = Sketch::new(alloc, shape)?;
         let frozen = Sketch::new(alloc, shape)?;
@@ -65,7 +66,7 @@ impl Twins {
     /// Ends the epoch: the current sketch becomes the frozen one, the new current one is of zeros, the epoch rises by
     /// one, and nothing of the frozen sketch is put out. The epoch is below 65,535.
     pub fn end(&mut self)
-        requires { self.old.epoch < 65535 }
+        requires { self.old.epoch < MOST_ENDS }
         ensures { self.new ≡ with_end self.old }
     {
         mem::swap(&mut self.current, &mut self.frozen);

@@ -8,7 +8,7 @@ use Rattle.flow_key.specs.declared.key.FlowKey.{FlowKey}
 use Rattle.lg_model.specs.declared.column.Bucket.{Bucket}
 use Rattle.lg_model.specs.declared.answer.Answer.{Answer}
 use Rattle.lg_model.specs.Placing.{Shape, place, places_of}
-use Rattle.lg_model.specs.Sketch.{MAX_BYTES, MAX_DELAY}
+use Rattle.lg_model.specs.declared.limits.TheConstants.{LAST_BYTES, LAST_DELAY}
 use Rattle.lg_model.specs.Answer.{Look, known_at, value_of}
 use Rattle.flow_query.specs.declared.least.Known.{Known}
 use Rattle.flow_query.specs.Least.{lower, known_of, known_to}
@@ -24,8 +24,8 @@ fold-lower-delay b (x ∷ bs) = fold-lower-delay (lower b x) bs
 
 -- what is told of least counters is what is told of their buckets
 pub told_of_least : (bs : List Bucket) (known : Known) (least : Bucket) → known ≡ known_of bs → known.least ≡ Some least →
-    ◌≡◌ {A = Answer} (record { rows_known = known.rows; bytes = value_of MAX_BYTES (least.bytes ∷ []); delay = value_of MAX_DELAY (least.delay ∷ []) })
-    (record { rows_known = length bs; bytes = value_of MAX_BYTES (map (λ (b : Bucket). b.bytes) bs); delay = value_of MAX_DELAY (map (λ (b : Bucket). b.delay) bs) })
+    ◌≡◌ {A = Answer} (record { rows_known = known.rows; bytes = value_of LAST_BYTES (least.bytes ∷ []); delay = value_of LAST_DELAY (least.delay ∷ []) })
+    (record { rows_known = length bs; bytes = value_of LAST_BYTES (map (λ (b : Bucket). b.bytes) bs); delay = value_of LAST_DELAY (map (λ (b : Bucket). b.delay) bs) })
 told_of_least [] known least is some = let none : None ≡ Some least = sym (ap (λ (k : Known). k.least) is) ∙ some in cc
 told_of_least (b ∷ bs) known least is some =
     let both : Some least ≡ Some (fold lower b bs) = sym some ∙ ap (λ (k : Known). k.least) is in
@@ -34,8 +34,8 @@ told_of_least (b ∷ bs) known least is some =
     let delay = ap (λ (x : Bucket). x.delay) same ∙ fold-lower-delay b bs in
     λ i. record {
       rows_known = ap (λ (k : Known). k.rows) is i;
-      bytes = ap (λ n. value_of MAX_BYTES (n ∷ [])) bytes i;
-      delay = ap (λ n. value_of MAX_DELAY (n ∷ [])) delay i;
+      bytes = ap (λ n. value_of LAST_BYTES (n ∷ [])) bytes i;
+      delay = ap (λ n. value_of LAST_DELAY (n ∷ [])) delay i;
     }
 
 range-more : (a n j : ℕ) → a + n ≡ j → range_with_len a (suc n) ≡ range_with_len a n ++ j ∷ []

@@ -9,7 +9,9 @@ use Rattle.lg_model.specs.declared.column.Bucket.{Bucket}
 use Rattle.lg_model.specs.declared.answer.Value.{Value}
 use Rattle.lg_model.specs.declared.answer.Value.TheVariants.{Unknown, AtMost, Saturated}
 use Rattle.lg_model.specs.Placing.{Shape, place}
-use Rattle.lg_model.specs.Sketch.{bucket_in, MAX_BYTES, MAX_DELAY}
+use Rattle.lg_model.specs.Columns.{Cells}
+use Rattle.lg_model.specs.Sketch.{bucket_in}
+use Rattle.lg_model.specs.declared.limits.TheConstants.{LAST_BYTES, LAST_DELAY}
 use Rattle.lg_model.specs.Answer.{Look, known_at, known, value_of}
 use Rattle.flow_query.specs.Told.{NoneIsKnown, IsLeast, IsTold, LawOfExactAnswers}
 
@@ -159,14 +161,14 @@ module _ (look : Look) (shape : Shape) (s e : ℕ) (f : FlowKey) where
   none_from_empty : known look shape s e f ≡ [] → NoneIsKnown look shape s e f
   none_from_empty empty i inside = (elim (look s e (place shape f i)) as (λ o. look s e (place shape f i) ≡ o → o ≡ None) [
     | None ↦ λ is. refl
-    | Some buckets ↦ λ is. absurd (each_up (λ b. ⊥) (known_at look shape s e f) 0 shape.rows (subst (AllByRecursion (λ (b : Bucket). ⊥)) (sym empty) tt) i (bucket_in buckets i) (omega arith) (omega arith)
-        (ap (λ (o : Option (List Bucket)). option_map (λ (bs : List Bucket). bucket_in bs i) o) is))
+    | Some cells ↦ λ is. absurd (each_up (λ b. ⊥) (known_at look shape s e f) 0 shape.rows (subst (AllByRecursion (λ (b : Bucket). ⊥)) (sym empty) tt) i (bucket_in cells.buckets i) (omega arith) (omega arith)
+        (ap (λ (o : Option Cells). option_map (λ (x : Cells). bucket_in x.buckets i) o) is))
   ]) refl
 
   empty_from_none : NoneIsKnown look shape s e f → known look shape s e f ≡ []
   empty_from_none none = no_item (known look shape s e f) (each_down (λ b. ⊥) (known_at look shape s e f) 0 shape.rows (λ i b low high is.
       let at = none i (omega arith) in
-      let not : None ≡ Some b = sym (ap (λ (o : Option (List Bucket)). option_map (λ (bs : List Bucket). bucket_in bs i) o) at) ∙ is in cc))
+      let not : None ≡ Some b = sym (ap (λ (o : Option Cells). option_map (λ (x : Cells). bucket_in x.buckets i) o) at) ∙ is in cc))
 
   least_rows : (c : Bucket → ℕ) (n : ℕ) → LeastIn c (known look shape s e f) n → IsLeast c look shape s e f n
   least_rows c n l =
@@ -203,6 +205,6 @@ length_none (y ∷ ys) is = absurd (omega arith)
 pub law : LawOfExactAnswers
 law look shape s e f = record {
   rows = (λ is. none_from_empty look shape s e f (length_none (known look shape s e f) is), λ none. ap length (empty_from_none look shape s e f none));
-  bytes = told look shape s e f (λ b. b.bytes) MAX_BYTES;
-  delay = told look shape s e f (λ b. b.delay) MAX_DELAY;
+  bytes = told look shape s e f (λ b. b.bytes) LAST_BYTES;
+  delay = told look shape s e f (λ b. b.delay) LAST_DELAY;
 }

@@ -6,7 +6,7 @@ use Rattle.lg_model.specs.declared.answer.Answer.{Answer}
 use Rattle.lg_model.specs.declared.answer.Value.{Value}
 use Rattle.lg_model.specs.declared.answer.Value.TheVariants.{Unknown, AtMost, Saturated}
 use Rattle.lg_model.specs.Placing.{Shape, place}
-use Rattle.lg_model.specs.Sketch.{MAX_BYTES, MAX_DELAY}
+use Rattle.lg_model.specs.declared.limits.TheConstants.{LAST_BYTES, LAST_DELAY}
 use Rattle.lg_model.specs.Answer.{Look, known_at, answer}
 
 -- No row of the flow is known: at none of its places a column is kept.
@@ -36,8 +36,8 @@ pub record IsTold (counter : Bucket → ℕ) (limit : ℕ) (look : Look) (shape 
 -- An answer says exactly what the rows do: whether any is known, and the least of each counter.
 pub record IsExact (look : Look) (shape : Shape) (s e : ℕ) (f : FlowKey) (a : Answer) : Type 0 where
   pub rows : a.rows_known ≡ 0 ↔ NoneIsKnown look shape s e f
-  pub bytes : IsTold (λ b. b.bytes) MAX_BYTES look shape s e f a.bytes
-  pub delay : IsTold (λ b. b.delay) MAX_DELAY look shape s e f a.delay
+  pub bytes : IsTold (λ b. b.bytes) LAST_BYTES look shape s e f a.bytes
+  pub delay : IsTold (λ b. b.delay) LAST_DELAY look shape s e f a.delay
 
 -- The law of exact answers, for every content.
 abbrev pub LawOfExactAnswers : Type 0

@@ -1,10 +1,11 @@
 //! The least counters of the known buckets of a flow.
 ghost use Rattle.std.specs.Prelude.{◌≡◌, ◌<◌, ◌+◌, ◌++◌, ◌∷◌, [], List, length, map};
 ghost use Rattle.lg_model.specs.declared.column.Bucket.{Bucket as GhostBucket};
-ghost use Rattle.lg_model.specs.Sketch.{MAX_BYTES, MAX_DELAY};
+ghost use Rattle.lg_model.specs.declared.limits.TheConstants.{LAST_BYTES, LAST_DELAY};
 ghost use Rattle.lg_model.specs.Answer.{value_of};
 ghost use Rattle.flow_query.specs.Least.{lower, known_of};
 
+use lg_model::limits::{LAST_BYTES, LAST_DELAY};
 use lg_model::{Answer, Bucket, Value};
 
 /// How many rows are known so far, and the least counters of their buckets.
@@ -39,7 +40,7 @@ fn value(limit: u32, least: u32) -> Value
 
 impl Known {
     /// No row.
-    pub(crate) fn none() -> Known
+    pub(crate) fn new() -> Known
         ensures { result ≡ known_of [] }
     {
         Known {
@@ -64,7 +65,7 @@ impl Known {
     /// What is told of a flow with these known rows.
     pub(crate) fn answer(&self) -> Answer
         ensures { (bs : List GhostBucket) → self.now ≡ known_of bs →
-            result ≡ record { rows_known = length bs; bytes = value_of MAX_BYTES (map (λ b. b.bytes) bs); delay = value_of MAX_DELAY (map (λ b. b.delay) bs) } }
+            result ≡ record { rows_known = length bs; bytes = value_of LAST_BYTES (map (λ b. b.bytes) bs); delay = value_of LAST_DELAY (map (λ b. b.delay) bs) } }
     {
         match self.least {
             None => Answer {
@@ -74,8 +75,8 @@ impl Known {
             },
             Some(least) => Answer {
                 rows_known: self.rows,
-                bytes: value(u32::MAX, least.bytes),
-                delay: value(u32::from(u16::MAX), u32::from(least.delay)),
+                bytes: value(LAST_BYTES, least.bytes),
+                delay: value(u32::from(LAST_DELAY), u32::from(least.delay)),
             },
         }
     }

@@ -7,12 +7,12 @@
 //! | [`answers_are_exact`] | the law of what an answer says |
 #![tactic(auto)]
 
-mod asking;
+mod answering;
 mod laws;
 mod least;
 #[cfg(test)]
 mod tests;
 
-pub use asking::answer;
+pub use answering::answer;
 pub use laws::answers_are_exact;
 pub use lg_model::{Answer, Value};

@@ -11,7 +11,8 @@ use Rattle.lg_model.specs.declared.scenario.Step.TheVariants as steps
 use Rattle.lg_model.specs.Scenario.{Scenario, flow_at, no_flow, IsFlow, IsStep, IsScenario, ended, is_end_of}
 use Rattle.lg_model.specs.Trace.{Packet, Meeting, packets_of, packets, meetings, meetings_of, meeting_of, reach}
 use Rattle.lg_model.specs.Carrying.{Carry, IsAllowed, IsCarriedAt}
-use Rattle.lg_model.specs.Arriving.{Column, column_of, cargo, brings, deliveries, arrivals, brought, brought_to_all, packet_at}
+use Rattle.lg_model.specs.Arriving.{column_of, cargo, brings, deliveries, arrivals, brought, brought_to_all, packet_at}
+use Rattle.lg_model.specs.Columns.{Column}
 
 -- what each element gives
 pub all_flat : {X Y : Type 0} (P : Y → Type 0) (f : X → List Y) (xs : List X) → ((x : X) → All P (f x)) → All P (flat_map f xs)

@@ -10,7 +10,7 @@ use Rattle.std.proofs.Common.{refl, sym, ap, ◌∙◌, subst, arith}
 use Rattle.std.proofs.lemmas.List.Elements.{All-nil, All-cons, All-head, All-tail}
 use Rattle.lg_model.specs.declared.column.Bucket.{Bucket}
 use Rattle.lg_model.specs.declared.column.Key.{Key}
-use Rattle.lg_model.specs.Arriving.{Column}
+use Rattle.lg_model.specs.Columns.{Column}
 use Rattle.lg_model.specs.Answer.{key_cmp, Content, found, with_column, content_of}
 use Rattle.column_book.proofs.Entries.{one_key}
 

@@ -9,9 +9,10 @@ use Rattle.lg_model.specs.declared.column.Bucket.{Bucket}
 use Rattle.lg_model.specs.declared.column.Key.{Key}
 use Rattle.lg_model.specs.declared.scenario.Ask.{Ask}
 use Rattle.lg_model.specs.Scenario.{Scenario, ended}
-use Rattle.lg_model.specs.Sketch.{column}
+use Rattle.lg_model.specs.Sketch.{frozen_cells}
 use Rattle.lg_model.specs.Carrying.{Carry, picked, IsAllowed}
-use Rattle.lg_model.specs.Arriving.{Column, column_of, brought_to_all}
+use Rattle.lg_model.specs.Arriving.{column_of, brought_to_all}
+use Rattle.lg_model.specs.Columns.{Column}
 use Rattle.lg_model.specs.Answer.{found, look_in}
 use Rattle.lg_model.specs.Bound.{Agrees}
 use Rattle.lg_model.proofs.Answering.{true_answer}

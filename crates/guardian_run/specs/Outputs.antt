@@ -4,7 +4,8 @@ use Rattle.std.specs.List.{flat_map, enumerate_from}
 use Rattle.lg_model.specs.declared.scenario.HostLine.{HostLine}
 use Rattle.lg_model.specs.Scenario.{Scenario}
 use Rattle.lg_model.specs.Carrying.{picked}
-use Rattle.lg_model.specs.Arriving.{Column, brought, brought_to_all}
+use Rattle.lg_model.specs.Arriving.{brought, brought_to_all}
+use Rattle.lg_model.specs.Columns.{Column}
 use Rattle.lg_model.specs.Answer.{Content, content_of}
 use Rattle.lg_model.specs.Report.{report}
 use Rattle.sketchlet_wire.specs.Spelling.{spelling}

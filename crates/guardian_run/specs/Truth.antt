@@ -5,9 +5,10 @@ use Rattle.lg_model.specs.declared.column.Key.{Key}
 use Rattle.lg_model.specs.declared.scenario.Ask.{Ask}
 use Rattle.lg_model.specs.Placing.{place}
 use Rattle.lg_model.specs.Scenario.{Scenario, flow_at, ended}
-use Rattle.lg_model.specs.Sketch.{column}
+use Rattle.lg_model.specs.Sketch.{frozen_cells}
 use Rattle.lg_model.specs.Carrying.{picked, IsAllowed}
-use Rattle.lg_model.specs.Arriving.{Column, brought_to_all}
+use Rattle.lg_model.specs.Arriving.{brought_to_all}
+use Rattle.lg_model.specs.Columns.{Column}
 use Rattle.lg_model.specs.Answer.{look_in}
 use Rattle.lg_model.specs.Bound.{IsTrueAnswer}
 use Rattle.lg_model.specs.Report.{answered}

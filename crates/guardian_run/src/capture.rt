@@ -4,7 +4,7 @@ ghost use Rattle.lg_model.specs.Matching.{Matched};
 ghost use Rattle.lg_model.specs.Carrying.{picked};
 ghost use Rattle.lg_model.specs.Arriving.{brought};
 ghost use Rattle.lg_model.specs.declared.scenario.HostLine.{HostLine};
-ghost use Rattle.path_sim.specs.Parts.{IsOf};
+ghost use Rattle.sketchlet_wire.specs.Packing.{IsPacked};
 ghost use Rattle.path_sim.specs.Arrived.{HaveArrived};
 ghost use Rattle.guardian_run.specs.Outputs.{host_lines, capture_of};
 
@@ -24,7 +24,7 @@ fn put_host(
     arrived: &[Packed],
     text: &mut Vec<u8>,
 ) -> Result<(), Memory>
-    requires { Matched (IsOf scenario.now) arrived.now (brought scenario.now (picked scenario.now) host_at) }
+    requires { Matched IsPacked arrived.now (brought scenario.now (picked scenario.now) host_at) }
     ensures { IfOk result (λ _. text.new.items ≡ text.old.items ++ host_lines scenario.now (host_at, host.now)) }
 {
     for packed in arrived {

@@ -3,12 +3,12 @@ ghost use Rattle.std.specs.Prelude.{◌≡◌, ◌<◌, List, length, fold, IfOk
 ghost use Rattle.lg_model.specs.Scenario.{IsScenario};
 ghost use Rattle.lg_model.specs.Matching.{Matched};
 ghost use Rattle.lg_model.specs.Carrying.{picked};
-ghost use Rattle.lg_model.specs.Arriving.{Column as Brought, brought};
+ghost use Rattle.lg_model.specs.Arriving.{brought};
+ghost use Rattle.lg_model.specs.Columns.{Column as Brought};
 ghost use Rattle.lg_model.specs.Answer.{with_column};
 ghost use Rattle.lg_model.specs.Report.{report as report_of};
 ghost use Rattle.sketchlet_wire.specs.Spelling.{ColumnData};
 ghost use Rattle.sketchlet_wire.specs.Packing.{IsPacked};
-ghost use Rattle.path_sim.specs.Parts.{IsOf};
 ghost use Rattle.path_sim.specs.Arrived.{HaveArrived};
 ghost use Rattle.guardian_run.specs.Outputs.{book_of};
 
@@ -40,7 +40,7 @@ fn keep_arrived(
     book: &mut Book,
 ) -> Result<(), Memory>
     requires shape { book.old.shape ≡ scenario.now.shape }
-    requires arrived { Matched (IsOf scenario.now) arrived.now (brought scenario.now (picked scenario.now) host_at) }
+    requires arrived { Matched IsPacked arrived.now (brought scenario.now (picked scenario.now) host_at) }
     ensures shape { IfOk result (λ _. book.new.shape ≡ book.old.shape) }
     ensures content { IfOk result (λ _. book.new.content ≡ fold with_column book.old.content (brought scenario.now (picked scenario.now) host_at)) }
 {

@@ -6,6 +6,7 @@
 //! | [`put_all`] | all bytes into a sink |
 //! | [`MemorySource`], [`MemorySink`] | both in memory, failing where they are told to |
 //! | [`StdSource`], [`StdSink`] | both over std's streams |
+//! | [`Faults`], [`Failing`] | a count of faults, and the calls of an object in memory that are to fail |
 //! | [`Memory`], [`Failed`], [`WriteFault`] | want of memory, a failed call of the outside, bytes not put |
 //!
 //! A source or a sink has a written meaning: the bytes that are left or written, where the implementation
@@ -14,8 +15,9 @@
 //! that source, and not from the code between.
 #![tactic(auto)]
 
+mod failing;
+mod fault_count;
 mod faults;
-mod listed;
 mod memory_sink;
 mod memory_source;
 mod put;
@@ -24,6 +26,8 @@ mod source;
 mod std_sink;
 mod std_source;
 
+pub use failing::Failing;
+pub use fault_count::Faults;
 pub use faults::{Failed, Memory, WriteFault};
 pub use memory_sink::MemorySink;
 pub use memory_source::MemorySource;

@@ -1,12 +1,13 @@
 //! A sink in memory, which fails where it is told to.
-ghost use Rattle.std.specs.Prelude.{Some, ◌≡◌, ◌<◌, ◌≤◌, ◌⊎◌, min, length, IsErr, IfOk, Contains, [], OnErr, OnOk};
+ghost use Rattle.std.specs.Prelude.{Some, ◌≡◌, ◌<◌, ◌≤◌, ◌⊎◌, min, length, IsErr, IfOk, [], OnErr, OnOk};
 ghost use Rattle.std.specs.Io.{WritesAtMost};
 ghost use Rattle.std.specs.Io.KnownBytes.{WriteAppends};
-ghost use Rattle.lg_base.specs.Causes.{HasCause};
-ghost use Rattle.lg_base.specs.Fakes.{one_more};
+ghost use Rattle.lg_base.specs.Causes.{HasCause, one_more};
+ghost use Rattle.lg_base.specs.Failing.{IsToFail, after_call};
 
+use crate::failing::Failing;
+use crate::fault_count::Faults;
 use crate::faults::Failed;
-use crate::listed::is_listed;
 use crate::sink::Sink;
 use std::alloc::Global;
 use std::marker::Model;
@@ -16,10 +17,9 @@ use std::marker::Model;
 pub struct MemorySink {
     bytes: Vec<u8>,
     piece: usize,
-    failing: Vec<u32>,
-    calls: u64,
-    starved: u64,
-    faults: u64,
+    failing: Failing,
+    starved: Faults,
+    faults: Faults,
 }
 
 impl Model for MemorySink {
@@ -28,7 +28,7 @@ impl Model for MemorySink {
 
     ghost Value = { SinkState };
 
-    ghost view = { λ s. record { written = s.bytes.items; piece = s.piece; failing = s.failing.items; calls = s.calls; starved = s.starved; faults = s.faults } };
+    ghost view = { λ s. record { written = s.bytes.items; piece = s.piece; failing = s.failing; starved = s.starved; faults = s.faults } };
 
     ghost invariant = { λ s. 0 < s.piece };
 }
@@ -38,15 +38,17 @@ impl MemorySink {
     /// at least 1. Takes no memory yet; `put` takes what it needs of the allocator.
     pub fn new(alloc: Global, piece: usize, failing: Vec<u32>) -> MemorySink
         requires { 0 < piece }
-        ensures { result ≡ record { written = []; piece = piece; failing = failing.items; calls = 0; starved = 0; faults = 0 } }
+        ensures written { result.written ≡ [] }
+        ensures piece { result.piece ≡ piece }
+        ensures failing { result.failing ≡ record { listed = failing.items; calls = 0 } }
+        ensures no_fault { (result.starved ≡ 0) × (result.faults ≡ 0) }
     {
         MemorySink {
             bytes: Vec::new(alloc),
             piece,
-            failing,
-            calls: 0,
-            starved: 0,
-            faults: 0,
+            failing: Failing::new(failing),
+            starved: Faults::none(),
+            faults: Faults::none(),
         }
     }
 
@@ -61,7 +63,7 @@ impl MemorySink {
     pub fn starved(&self) -> u64
         ensures { result ≡ self.now.starved }
     {
-        self.starved
+        self.starved.count()
     }
 }
 
@@ -77,34 +79,32 @@ impl Sink for MemorySink {
         ensures progress { 0 < length bytes.now → IfOk result (λ n. 0 < n) }
         ensures bytes { WriteAppends (Some self.old.written) (Some self.new.written) result bytes.now }
         ensures cause { HasCause self.old.faults self.new.faults result }
-        ensures listed { Contains self.old.failing self.old.calls → IsErr result × (self.new.starved ≡ self.old.starved) }
-        ensures failed { IsErr result → Contains self.old.failing self.old.calls ⊎ (self.new.starved ≡ one_more self.old.starved) }
+        ensures listed { IsToFail self.old.failing → IsErr result × (self.new.starved ≡ self.old.starved) }
+        ensures failed { IsErr result → IsToFail self.old.failing ⊎ (self.new.starved ≡ one_more self.old.starved) }
         ensures fed { OnOk result (self.new.starved ≡ self.old.starved) }
         ensures count { IfOk result (λ n. n ≡ min (length bytes.now) self.old.piece) }
-        ensures counted { self.new.calls ≡ one_more self.old.calls }
+        ensures counted { self.new.failing ≡ after_call self.old.failing }
         ensures no_fault { OnOk result (self.new.faults ≡ self.old.faults) }
         ensures fault { OnErr result (self.new.faults ≡ one_more self.old.faults) }
-        ensures kept { (self.new.piece ≡ self.old.piece) × (self.new.failing ≡ self.old.failing) }
+        ensures kept { self.new.piece ≡ self.old.piece }
     {
-        let call = self.calls;
-        self.calls = self.calls.saturating_add(1);
-        if is_listed(&self.failing, call) {
-            self.faults = self.faults.saturating_add(1);
+        if self.failing.fails_next() {
+            self.faults.raise();
             return Err(Failed);
         }
         let count = bytes.len().min(self.piece);
         match self.bytes.extend_from_slice(&bytes[..count]) {
             Ok(()) => Ok(count),
             Err(_) => {
-                self.starved = self.starved.saturating_add(1);
-                self.faults = self.faults.saturating_add(1);
+                self.starved.raise();
+                self.faults.raise();
                 Err(Failed)
             }
         }
     }
 
     fn fault_count(&self) -> u64 {
-        self.faults
+        self.faults.count()
     }
 }
 

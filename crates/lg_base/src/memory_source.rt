@@ -1,12 +1,13 @@
 //! A source in memory, which fails where it is told to.
-ghost use Rattle.std.specs.Prelude.{Some, ◌≡◌, ◌<◌, ◌≤◌, ◌↔◌, min, take, length, IsErr, IfOk, Contains, OnErr, OnOk};
+ghost use Rattle.std.specs.Prelude.{Some, ◌≡◌, ◌<◌, ◌≤◌, ◌↔◌, min, take, length, IsErr, IfOk, OnErr, OnOk};
 ghost use Rattle.std.specs.Io.{ReadsAtMost};
 ghost use Rattle.std.specs.Io.KnownBytes.{ReadConsumes};
-ghost use Rattle.lg_base.specs.Causes.{HasCause};
-ghost use Rattle.lg_base.specs.Fakes.{one_more};
+ghost use Rattle.lg_base.specs.Causes.{HasCause, one_more};
+ghost use Rattle.lg_base.specs.Failing.{IsToFail, after_call};
 
+use crate::failing::Failing;
+use crate::fault_count::Faults;
 use crate::faults::Failed;
-use crate::listed::is_listed;
 use crate::source::Source;
 use std::marker::Model;
 
@@ -17,9 +18,8 @@ pub struct MemorySource {
     // How many of the bytes were taken.
     at: usize,
     piece: usize,
-    failing: Vec<u32>,
-    calls: u64,
-    faults: u64,
+    failing: Failing,
+    faults: Faults,
 }
 
 impl Model for MemorySource {
@@ -28,7 +28,7 @@ impl Model for MemorySource {
 
     ghost Value = { SourceState };
 
-    ghost view = { λ s. record { left = drop s.at s.bytes.items; piece = s.piece; failing = s.failing.items; calls = s.calls; faults = s.faults } };
+    ghost view = { λ s. record { left = drop s.at s.bytes.items; piece = s.piece; failing = s.failing; faults = s.faults } };
 
     ghost invariant = { λ s. (s.at ≤ vec_len s.bytes) × (0 < s.piece) };
 }
@@ -48,15 +48,17 @@ impl MemorySource {
     /// listed. The piece is at least 1. Takes no memory.
     pub fn new(bytes: Vec<u8>, piece: usize, failing: Vec<u32>) -> MemorySource
         requires { 0 < piece }
-        ensures { result ≡ record { left = bytes.items; piece = piece; failing = failing.items; calls = 0; faults = 0 } }
+        ensures left { result.left ≡ bytes.items }
+        ensures piece { result.piece ≡ piece }
+        ensures failing { result.failing ≡ record { listed = failing.items; calls = 0 } }
+        ensures no_fault { result.faults ≡ 0 }
     {
         MemorySource {
             bytes,
             at: 0,
             piece,
-            failing,
-            calls: 0,
-            faults: 0,
+            failing: Failing::new(failing),
+            faults: Faults::none(),
         }
     }
 }
@@ -72,17 +74,15 @@ impl Source for MemorySource {
         ensures bound { ReadsAtMost result buf.new }
         ensures bytes { ReadConsumes (Some self.old.left) (Some self.new.left) result buf.new }
         ensures cause { HasCause self.old.faults self.new.faults result }
-        ensures listed { IsErr result ↔ Contains self.old.failing self.old.calls }
+        ensures listed { IsErr result ↔ IsToFail self.old.failing }
         ensures count { IfOk result (λ n. n ≡ min (min self.old.piece (length self.old.left)) (length buf.old)) }
-        ensures counted { self.new.calls ≡ one_more self.old.calls }
+        ensures counted { self.new.failing ≡ after_call self.old.failing }
         ensures no_fault { OnOk result (self.new.faults ≡ self.old.faults) }
         ensures fault { OnErr result (self.new.faults ≡ one_more self.old.faults) }
-        ensures kept { (self.new.piece ≡ self.old.piece) × (self.new.failing ≡ self.old.failing) }
+        ensures kept { self.new.piece ≡ self.old.piece }
     {
-        let call = self.calls;
-        self.calls = self.calls.saturating_add(1);
-        if is_listed(&self.failing, call) {
-            self.faults = self.faults.saturating_add(1);
+        if self.failing.fails_next() {
+            self.faults.raise();
             return Err(Failed);
         }
         let count = copy_front(&self.bytes[self.at..], self.piece, buf);
@@ -91,7 +91,7 @@ impl Source for MemorySource {
     }
 
     fn fault_count(&self) -> u64 {
-        self.faults
+        self.faults.count()
     }
 }
 

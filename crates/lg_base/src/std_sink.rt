@@ -1,29 +1,43 @@
-//! A writer of std as a sink. It tells no bytes.
-ghost use Rattle.std.specs.Prelude.{◌≡◌, None, ◌<◌, length, IfOk};
+//! A writer of std as a sink.
+ghost use Rattle.std.specs.Prelude.{◌≡◌, ◌<◌, length, IfOk, OnErr, OnOk};
 ghost use Rattle.std.specs.Io.{WritesAtMost};
+ghost use Rattle.std.specs.Io.KnownBytes.{WriteAppends};
+ghost use Rattle.lg_base.specs.Causes.{HasCause, one_more};
 
+use crate::fault_count::Faults;
 use crate::faults::Failed;
 use crate::sink::Sink;
 use std::io::{ErrorKind, Write};
+use std::marker::Model;
 
 // How often an interrupted write is made again.
 const REPEATS: u32 = 100;
 
-/// A sink over a writer, as standard output. That the writer hands on the bytes that it is given is a premise of the
-/// user, and not proved.
+/// A sink over a writer. It tells the bytes that the writer tells: standard output tells none, and that it hands on the
+/// bytes that it is given is a premise of the user, and not proved.
 #[derive(Drop)]
 pub struct StdSink<O: Write> {
     output: O,
-    faults: u64,
+    faults: Faults,
+}
+
+impl<O: Write> Model for StdSink<O> {
+    ghost use Rattle.lg_base.specs.Fakes.{StreamState};
+
+    ghost Value = { StreamState O };
+
+    ghost view = { λ s. record { stream = s.output; faults = s.faults } };
 }
 
 impl<O: Write> StdSink<O> {
     /// The sink over this writer, with no fault yet. Takes no memory.
     pub fn new(output: O) -> StdSink<O>
-        ensures output { result.output ≡ output }
-        ensures no_fault { result.faults ≡ 0 }
+        ensures { result ≡ record { stream = output; faults = 0 } }
     {
-        StdSink { output, faults: 0 }
+        StdSink {
+            output,
+            faults: Faults::none(),
+        }
     }
 }
 
@@ -31,6 +45,7 @@ impl<O: Write> StdSink<O> {
 fn write_again<O: Write>(output: &mut O, bytes: &[u8]) -> Result<usize, Failed>
     ensures bound { WritesAtMost result bytes.now }
     ensures progress { 0 < length bytes.now → IfOk result (λ n. 0 < n) }
+    ensures bytes { WriteAppends (O.contents output.old) (O.contents output.new) result bytes.now }
 {
     for _ in 0..=REPEATS {
         match output.write(bytes) {
@@ -47,24 +62,29 @@ fn write_again<O: Write>(output: &mut O, bytes: &[u8]) -> Result<usize, Failed>
 }
 
 impl<O: Write> Sink for StdSink<O> {
-    ghost written = { λ _. None };
+    ghost written = { λ s. O.contents s.stream };
 
     ghost faults = { λ s. s.faults };
 
     /// Writes once, and again where the write was interrupted, at most 100 times. Each other error, one interruption
     /// more and a write of 0 bytes is a fault, which is counted.
-    fn put(&mut self, bytes: &[u8]) -> Result<usize, Failed> {
-        match write_again(&mut self.output, bytes) {
-            Ok(count) => Ok(count),
-            Err(fault) => {
-                self.faults = self.faults.saturating_add(1);
-                Err(fault)
-            }
+    fn put(&mut self, bytes: &[u8]) -> Result<usize, Failed>
+        ensures bound { WritesAtMost result bytes.now }
+        ensures progress { 0 < length bytes.now → IfOk result (λ n. 0 < n) }
+        ensures bytes { WriteAppends (O.contents self.old.stream) (O.contents self.new.stream) result bytes.now }
+        ensures cause { HasCause self.old.faults self.new.faults result }
+        ensures no_fault { OnOk result (self.new.faults ≡ self.old.faults) }
+        ensures fault { OnErr result (self.new.faults ≡ one_more self.old.faults) }
+    {
+        let outcome = write_again(&mut self.output, bytes);
+        if outcome.is_err() {
+            self.faults.raise();
         }
+        outcome
     }
 
     fn fault_count(&self) -> u64 {
-        self.faults
+        self.faults.count()
     }
 }
 

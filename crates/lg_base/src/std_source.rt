@@ -1,35 +1,50 @@
-//! A reader of std as a source. It tells no bytes.
-ghost use Rattle.std.specs.Prelude.{◌≡◌, None};
+//! A reader of std as a source.
+ghost use Rattle.std.specs.Prelude.{◌≡◌, OnErr, OnOk};
 ghost use Rattle.std.specs.Io.{ReadsAtMost};
+ghost use Rattle.std.specs.Io.KnownBytes.{ReadConsumes};
+ghost use Rattle.lg_base.specs.Causes.{HasCause, one_more};
 
+use crate::fault_count::Faults;
 use crate::faults::Failed;
 use crate::source::Source;
 use std::io::{ErrorKind, Read};
+use std::marker::Model;
 
 // How often an interrupted read is made again.
 const REPEATS: u32 = 100;
 
-/// A source over a reader, as standard input. That the reader gives the bytes that were sent to it is a premise of the
-/// user, and not proved.
+/// A source over a reader. It tells the bytes that the reader tells: standard input tells none, and that it gives the
+/// bytes that were sent to it is a premise of the user, and not proved.
 #[derive(Drop)]
 pub struct StdSource<I: Read> {
     input: I,
-    faults: u64,
+    faults: Faults,
+}
+
+impl<I: Read> Model for StdSource<I> {
+    ghost use Rattle.lg_base.specs.Fakes.{StreamState};
+
+    ghost Value = { StreamState I };
+
+    ghost view = { λ s. record { stream = s.input; faults = s.faults } };
 }
 
 impl<I: Read> StdSource<I> {
     /// The source over this reader, with no fault yet. Takes no memory.
     pub fn new(input: I) -> StdSource<I>
-        ensures input { result.input ≡ input }
-        ensures no_fault { result.faults ≡ 0 }
+        ensures { result ≡ record { stream = input; faults = 0 } }
     {
-        StdSource { input, faults: 0 }
+        StdSource {
+            input,
+            faults: Faults::none(),
+        }
     }
 }
 
 // Reads, and again where the read was interrupted, at most that many times.
 fn read_again<I: Read>(input: &mut I, buf: &mut [u8]) -> Result<usize, Failed>
-    ensures { ReadsAtMost result buf.new }
+    ensures bound { ReadsAtMost result buf.new }
+    ensures bytes { ReadConsumes (I.remaining input.old) (I.remaining input.new) result buf.new }
 {
     for _ in 0..=REPEATS {
         match input.read(buf) {
@@ -45,24 +60,28 @@ fn read_again<I: Read>(input: &mut I, buf: &mut [u8]) -> Result<usize, Failed>
 }
 
 impl<I: Read> Source for StdSource<I> {
-    ghost left = { λ _. None };
+    ghost left = { λ s. I.remaining s.stream };
 
     ghost faults = { λ s. s.faults };
 
     /// Reads once, and again where the read was interrupted, at most 100 times. Each other error and one interruption
     /// more is a fault, which is counted.
-    fn take(&mut self, buf: &mut [u8]) -> Result<usize, Failed> {
-        match read_again(&mut self.input, buf) {
-            Ok(count) => Ok(count),
-            Err(fault) => {
-                self.faults = self.faults.saturating_add(1);
-                Err(fault)
-            }
+    fn take(&mut self, buf: &mut [u8]) -> Result<usize, Failed>
+        ensures bound { ReadsAtMost result buf.new }
+        ensures bytes { ReadConsumes (I.remaining self.old.stream) (I.remaining self.new.stream) result buf.new }
+        ensures cause { HasCause self.old.faults self.new.faults result }
+        ensures no_fault { OnOk result (self.new.faults ≡ self.old.faults) }
+        ensures fault { OnErr result (self.new.faults ≡ one_more self.old.faults) }
+    {
+        let outcome = read_again(&mut self.input, buf);
+        if outcome.is_err() {
+            self.faults.raise();
         }
+        outcome
     }
 
     fn fault_count(&self) -> u64 {
-        self.faults
+        self.faults.count()
     }
 }
 

@@ -1,8 +1,8 @@
 -- Whatever lawful pickers answer is allowed.
-use Rattle.std.specs.Prelude.{◌≡◌, ◌≢◌, ℕ, ◌+◌, ◌-◌, ◌<◌, ◌≤◌, ◌⊎◌, Bool, true, false, not, ◌&&◌, ◌==◌, nat_lt, List, [], ◌∷◌, ◌++◌, map, take, length, Option, Some, None, IfSome, IfNone, slice_index, slice_index_or, slice_get, All, Any}
+use Rattle.std.specs.Prelude.{◌≡◌, ◌≢◌, ℕ, ◌+◌, ◌-◌, ◌<◌, ◌≤◌, ◌⊎◌, Bool, true, false, not, ◌&&◌, ◌==◌, nat_lt, cond, fold, count_by, ◌%◌, List, [], ◌∷◌, ◌++◌, map, take, length, Option, Some, None, IfSome, IfNone, slice_index, slice_index_or, slice_get, All, Any}
 use Rattle.std.specs.List.{enumerate_from, flat_map}
 use Rattle.std.specs.List.Sorted.{IsStrictlyIncreasing}
-use Rattle.std.proofs.Common.{refl, sym, ap, ◌∙◌, subst, arith, inl, inr, append_assoc, append-nil, rules, tests}
+use Rattle.std.proofs.Common.{refl, sym, ap, ◌∙◌, subst, arith, inl, inr, append_assoc, append-nil, rules, tests, eq-eqb}
 use Rattle.std.proofs.lemmas.Bool.{false≢true, cases_lt}
 use Rattle.std.proofs.lemmas.List.{map-append, length-map, length-append, get_or_append_left, get_or-append-add, length_push, get_or-map}
 use Rattle.std.proofs.lemmas.List.Elements.{All-nil, All-cons, All-head, All-tail, All-push, All-append, All-weaker, All-replicate, All-get_or}
@@ -11,9 +11,12 @@ use Rattle.std.proofs.lemmas.List.Folds.{Any-from_list_any}
 use Rattle.std.proofs.lemmas.Bool.Decides.{eqb_tells}
 use Rattle.lg_model.specs.Scenario.{Scenario}
 use Rattle.lg_model.specs.Trace.{Packet, Meeting, packets, meeting_of, meetings_of, meetings_in, meetings, reach, ended_before}
-use Rattle.lg_model.specs.Carrying.{Carry, IsCarriedAt, IsAllowed, Offer, hops_left, carries, is_ask, offer_at, carry_at, with_choice}
+use Rattle.std.proofs.Math.Nat.{mod-lt, mod-one}
+use Rattle.lg_model.specs.declared.scenario.Pick.{Pick}
+use Rattle.lg_model.specs.declared.scenario.Pick.TheVariants.{Turns, Chance}
+use Rattle.lg_model.specs.Carrying.{Carry, IsCarriedAt, IsAllowed, LawOfThePickedList, Offer, hops_left, carries, is_offered, offer_at, carry_at, with_choice, Picking, chosen, chosen_at, pick_at, picked, candidate, chance_stream, chance_word, words_on}
 use Rattle.lg_model.specs.Runs.{Runs}
-use Rattle.lg_model.specs.Asking.{Picks, IsLawful, Asking, asking, IsAsked, IsPick}
+use Rattle.lg_model.specs.Offering.{Picks, IsLawful, Offering, offering, IsOffered, IsPick}
 use Rattle.lg_model.proofs.Tracing.{meetings_on}
 
 -- the numbers of the meetings don't fall
@@ -47,6 +50,16 @@ rising_on a (p ∷ ps) = rising_one a p (enumerate_from 0 (take (reach p) p.flow
 
 abbrev IsLast : Scenario → List Carry → Meeting → Type 0
 IsLast w cs m = m.hop ≡ m.hops → 0 < ended_before w m → Any (λ (c : Carry). c.packet ≡ m.number) cs
+
+-- what a meeting does to what is carried: a packet that is offered a column is given what a lawful answer says
+record IsLoaded (w : Scenario) (m : Meeting) (old new : List Carry) : Type 0 where
+  answer : Option ℕ
+  lawful : IsLawful (hops_left m) (offer_at w old m) answer
+  carried : new ≡ with_choice w m old answer
+
+record IsLoading (w : Scenario) (m : Meeting) (old new : List Carry) : Type 0 where
+  offers : is_offered w old m ≡ true → IsLoaded w m old new
+  passes : is_offered w old m ≡ false → new ≡ old
 
 record Holds (w : Scenario) (ms : List Meeting) (cs : List Carry) : Type 0 where
   rising : IsStrictlyIncreasing (map (λ (c : Carry). c.packet) cs)
@@ -111,20 +124,19 @@ found n cs h =
     let a : Any (λ (c : Carry). (c.packet == n) ≡ true) cs = Any-from_list_any (λ (c : Carry). c.packet == n) cs h in
     (a.0, a.1, a.2, a.3, elim (eqb_tells a.1.packet n) [ inl same ↦ same.1 | inr other ↦ absurd (false≢true (sym other.0 ∙ a.4)) ])
 
-step : {S : Type 0} (picks : Picks S) (w : Scenario) (past : List Meeting) (m : Meeting) (a b : Asking S) →
-    Holds w past a.carried → All (λ (c : Carry). c.packet ≤ m.number) a.carried → IsPick picks w m a b →
-    Holds w (past ++ m ∷ []) b.carried × All (λ (c : Carry). c.packet ≤ m.number) b.carried
-step {S} picks w past m a b holds low pick =
-    let Goal : List Carry → Type 0 = λ cs. Holds w (past ++ m ∷ []) cs × All (λ (c : Carry). c.packet ≤ m.number) cs in
-    let cs = a.carried in
-    (elim (is_ask w cs m) as (λ (v : Bool). is_ask w cs m ≡ v → Goal b.carried) [
-      | true ↦ λ yes_ask.
-          let asked : IsAsked picks w m a b = pick.asks yes_ask in
-          let law : IsLawful (hops_left m) (offer_at w cs m) asked.answer = asked.lawful in
-          let none : carries cs m.number ≡ false = not_true (carries cs m.number) (and_right (nat_lt 0 (ended_before w m)) (not (carries cs m.number)) yes_ask) in
-          let early : nat_lt 0 (ended_before w m) ≡ true = and_left (nat_lt 0 (ended_before w m)) (not (carries cs m.number)) yes_ask in
+step : (w : Scenario) (past : List Meeting) (m : Meeting) (cs new : List Carry) →
+    Holds w past cs → All (λ (c : Carry). c.packet ≤ m.number) cs → IsLoading w m cs new →
+    Holds w (past ++ m ∷ []) new × All (λ (c : Carry). c.packet ≤ m.number) new
+step w past m cs new holds low load =
+    let Goal : List Carry → Type 0 = λ xs. Holds w (past ++ m ∷ []) xs × All (λ (c : Carry). c.packet ≤ m.number) xs in
+    (elim (is_offered w cs m) as (λ (v : Bool). is_offered w cs m ≡ v → Goal new) [
+      | true ↦ λ yes_offer.
+          let offered : IsLoaded w m cs new = load.offers yes_offer in
+          let law : IsLawful (hops_left m) (offer_at w cs m) offered.answer = offered.lawful in
+          let none : carries cs m.number ≡ false = not_true (carries cs m.number) (and_right (nat_lt 0 (ended_before w m)) (not (carries cs m.number)) yes_offer) in
+          let early : nat_lt 0 (ended_before w m) ≡ true = and_left (nat_lt 0 (ended_before w m)) (not (carries cs m.number)) yes_offer in
           let some : 0 < ended_before w m = search (rules, tests) in
-          subst Goal (sym asked.carried) ((elim asked.answer as (λ (v : Option ℕ). IsLawful (hops_left m) (offer_at w cs m) v → Goal (with_choice w m cs v)) [
+          subst Goal (sym offered.carried) ((elim offered.answer as (λ (v : Option ℕ). IsLawful (hops_left m) (offer_at w cs m) v → Goal (with_choice w m cs v)) [
             | None ↦ λ rule. (
               record {
                 rising = holds.rising;
@@ -145,14 +157,14 @@ step {S} picks w past m a b holds low pick =
                   All-push (λ (x : Carry). x.packet ≤ m.number) cs c low (let e : m.number ≤ m.number = omega arith in e),
                 )
           ]) law)
-      | false ↦ λ no_ask.
-          subst (λ (x : Asking S). Goal x.carried) (sym (pick.passes no_ask)) (
+      | false ↦ λ no_offer.
+          subst Goal (sym (load.passes no_offer)) (
             record {
               rising = holds.rising;
               each = each_wide w past m cs holds.each;
               last = All-push (IsLast w cs) past m holds.last (λ at q.
                   let early : nat_lt 0 (ended_before w m) ≡ true = search (rules, tests) in
-                  let left : not (carries cs m.number) ≡ false = ap (λ (v : Bool). v && not (carries cs m.number)) (sym early) ∙ no_ask in
+                  let left : not (carries cs m.number) ≡ false = ap (λ (v : Bool). v && not (carries cs m.number)) (sym early) ∙ no_offer in
                   found m.number cs (not_false (carries cs m.number) left));
             },
             low,
@@ -171,23 +183,88 @@ low_next : (m : Meeting) (cs : List Carry) (ms : List Meeting) → All (λ (c : 
 low_next m cs [] low up = tt
 low_next m cs (x ∷ ms) low up = lower m.number x.number cs (All-head (λ (y : Meeting). m.number ≤ y.number) x ms up) low
 
-walk : {S : Type 0} (picks : Picks S) (w : Scenario) (past ms : List Meeting) (a b : Asking S) →
-    Holds w past a.carried → Low a.carried ms → Rising ms → Runs (IsPick picks w) ms a b → Holds w (past ++ ms) b.carried
-walk {S} picks w past [] a b holds low up run =
-    subst (λ (x : Asking S). Holds w (past ++ []) x.carried) (sym run) (subst (λ xs. Holds w xs a.carried) (sym (append-nil past)) holds)
-walk picks w past (m ∷ ms) a b holds low up run =
-    let one = step picks w past m a run.0 holds low run.1 in
-    subst (λ xs. Holds w xs b.carried) (append_assoc past (m ∷ []) ms)
-    (walk picks w (past ++ m ∷ []) ms run.0 b one.0 (low_next m run.0.carried ms one.1 up.0) up.1 run.2)
+walk : (w : Scenario) (past ms : List Meeting) (cs new : List Carry) →
+    Holds w past cs → Low cs ms → Rising ms → Runs (IsLoading w) ms cs new → Holds w (past ++ ms) new
+walk w past [] cs new holds low up run =
+    subst (Holds w (past ++ [])) (sym run) (subst (λ xs. Holds w xs cs) (sym (append-nil past)) holds)
+walk w past (m ∷ ms) cs new holds low up run =
+    let one = step w past m cs run.0 holds low run.1 in
+    subst (λ xs. Holds w xs new) (append_assoc past (m ∷ []) ms)
+    (walk w (past ++ m ∷ []) ms run.0 new one.0 (low_next m run.0 ms one.1 up.0) up.1 run.2)
 
--- what lawful pickers let the packets carry is allowed
-pub allowed : {S : Type 0} (picks : Picks S) (w : Scenario) (ps : List S) (b : Asking S) →
-    Runs (IsPick picks w) (meetings w) (asking ps []) b → IsAllowed w b.carried
-allowed picks w ps b run =
+-- whatever lawful answers let the packets carry is allowed
+loaded_is_allowed : (w : Scenario) (cs : List Carry) → Runs (IsLoading w) (meetings w) [] cs → IsAllowed w cs
+loaded_is_allowed w cs run =
     let start : Holds w [] [] = record { rising = λ k h. absurd (omega arith); each = All-nil (λ c. Any (IsCarriedAt w c) []); last = All-nil (IsLast w []) } in
-    let h = walk picks w [] (meetings w) (asking ps []) b start (none (meetings w)) (rising_on 0 (packets w)) run in
+    let h = walk w [] (meetings w) [] cs start (none (meetings w)) (rising_on 0 (packets w)) run in
     record { rising = h.rising; each = h.each; last = h.last }
   where
     none : (ms : List Meeting) → Low [] ms
     none [] = tt
     none (m ∷ ms) = All-nil (λ (c : Carry). c.packet ≤ m.number)
+
+loads : {S : Type 0} (picks : Picks S) (w : Scenario) (m : Meeting) (a b : Offering S) → IsPick picks w m a b → IsLoading w m a.carried b.carried
+loads {S} picks w m a b pick = record {
+  offers = λ yes. let offered : IsOffered picks w m a b = pick.offers yes in record { answer = offered.answer; lawful = offered.lawful; carried = offered.carried };
+  passes = λ no. ap (λ (x : Offering S). x.carried) (pick.passes no);
+}
+
+loads_all : {S : Type 0} (picks : Picks S) (w : Scenario) (ms : List Meeting) (a b : Offering S) → Runs (IsPick picks w) ms a b → Runs (IsLoading w) ms a.carried b.carried
+loads_all {S} picks w [] a b run = ap (λ (x : Offering S). x.carried) run
+loads_all picks w (m ∷ ms) a b run = (run.0.carried, loads picks w m a run.0 run.1, loads_all picks w ms run.0 b run.2)
+
+-- so is what lawful pickers let the packets carry
+pub allowed : {S : Type 0} (picks : Picks S) (w : Scenario) (ps : List S) (b : Offering S) →
+    Runs (IsPick picks w) (meetings w) (offering ps []) b → IsAllowed w b.carried
+allowed picks w ps b run = loaded_is_allowed w b.carried (loads_all picks w (meetings w) (offering ps []) b run)
+
+-- ---- the scenario's own choice
+
+-- a number of hops divides each number where it is 1
+nowhere_else : (n hops : ℕ) → 1 ≤ hops → (n % hops == 0) ≡ false → 1 < hops
+nowhere_else n hops some other =
+    elim (eqb_tells hops 1) [
+      | inl one ↦ absurd (false≢true (sym other ∙ eq-eqb (n % hops) 0 (ap (λ k. n % k) one.1 ∙ mod-one n)))
+      | inr more ↦ let ne = more.1 in omega arith
+    ]
+
+-- a choice that is made where the hops left divide a number, and is then an index below the width, is lawful
+lawful_where : (n hops j : ℕ) (offer : Offer) → 1 ≤ hops → j < offer.width → IsLawful hops offer (cond (n % hops == 0) (Some j) None)
+lawful_where n hops j offer some low =
+    (elim (n % hops == 0) as (λ (v : Bool). (n % hops == 0) ≡ v → IsLawful hops offer (cond v (Some j) None)) [
+      | true ↦ λ q. record { index = low; none = tt }
+      | false ↦ λ q. record { index = tt; none = nowhere_else n hops some q }
+    ]) refl
+
+candidate_low : (offer : Offer) (y z : ℕ) → 0 < offer.width → candidate offer y z < offer.width
+candidate_low offer y z wide =
+    elim (nat_lt (slice_index offer.times (z % offer.width)) (slice_index offer.times (y % offer.width))) as (λ (v : Bool). cond v (z % offer.width) (y % offer.width) < offer.width) [
+      | true ↦ mod-lt z wide
+      | false ↦ mod-lt y wide
+    ]
+
+chosen_is_lawful : (pick : Pick) (name offers hops : ℕ) (offer : Offer) → 1 ≤ hops → 0 < offer.width → IsLawful hops offer (chosen pick name offers hops offer)
+chosen_is_lawful Turns name offers hops offer some wide = lawful_where offers hops (offer.put % offer.width) offer some (mod-lt offer.put wide)
+chosen_is_lawful (Chance n) name offers hops offer some wide =
+    let g = chance_stream n name offers in
+    let y = chance_word (words_on 1 g) in
+    let z = chance_word (words_on 1 (words_on 1 g)) in
+    lawful_where (chance_word g) hops (candidate offer y z) offer some (candidate_low offer y z wide)
+
+picks_one : (w : Scenario) (k : Picking) (m : Meeting) → 0 < w.shape.width → IsLoading w m k.carried (pick_at w k m).carried
+picks_one w k m wide =
+    let made : Picking = record { offered = k.offered ++ m.switch_at ∷ []; carried = with_choice w m k.carried (chosen_at w k m) } in
+    let some : 1 ≤ hops_left m = omega arith in
+    let law = chosen_is_lawful w.pick (slice_index w.switches m.switch_at) (count_by (λ s. s == m.switch_at) k.offered) (hops_left m) (offer_at w k.carried m) some wide in
+    (elim (is_offered w k.carried m) as (λ (v : Bool). is_offered w k.carried m ≡ v → IsLoading w m k.carried (cond v made k).carried) [
+      | true ↦ λ q. record { offers = λ yes. record { answer = chosen_at w k m; lawful = law; carried = refl }; passes = λ no. absurd (false≢true (sym no ∙ q)) }
+      | false ↦ λ q. record { offers = λ yes. absurd (false≢true (sym q ∙ yes)); passes = λ no. refl }
+    ]) refl
+
+picks_all : (w : Scenario) (ms : List Meeting) (k : Picking) → 0 < w.shape.width → Runs (IsLoading w) ms k.carried (fold (pick_at w) k ms).carried
+picks_all w [] k wide = refl
+picks_all w (m ∷ ms) k wide = ((pick_at w k m).carried, picks_one w k m wide, picks_all w ms (pick_at w k m) wide)
+
+-- the picked list is allowed
+pub picked_is_allowed : LawOfThePickedList
+picked_is_allowed w wide = loaded_is_allowed w (picked w) (picks_all w (meetings w) (record { offered = []; carried = [] }) wide)

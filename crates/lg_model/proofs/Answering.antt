@@ -10,14 +10,16 @@ use Rattle.lg_model.specs.declared.column.Bucket.{Bucket}
 use Rattle.lg_model.specs.Placing.{Shape, place}
 use Rattle.lg_model.specs.Scenario.{Scenario}
 use Rattle.lg_model.specs.Trace.{Observation, seen, sum_of, most_of}
-use Rattle.lg_model.specs.Sketch.{Table, IsTable, bucket_in, bucket_at, zero_bucket, zero_table, raise_by, table_of, frozen, column, MAX_BYTES, MAX_DELAY}
+use Rattle.lg_model.specs.Sketch.{Table, IsTable, bucket_in, bucket_at, zero_bucket, zero_table, raise_by, table_of, frozen, frozen_cells}
+use Rattle.lg_model.specs.Columns.{Cells}
+use Rattle.lg_model.specs.declared.limits.TheConstants.{LAST_BYTES, LAST_DELAY}
 use Rattle.lg_model.specs.Bound.{IsBound, IsLow, IsAtLeast, Agrees, IsTrueAnswer, LawOfTheAnswer}
 use Rattle.lg_model.specs.Answer.{Look, value_of, known, known_at, answer}
 use Rattle.lg_model.specs.declared.answer.Value.{Value}
 use Rattle.lg_model.specs.declared.answer.Value.TheVariants.{Unknown, AtMost, Saturated}
 use Rattle.flow_key.specs.declared.key.FlowKey.{FlowKey}
 use Rattle.lg_model.proofs.Bounding.{bound, IsTable-raise, at}
-use Rattle.lg_model.proofs.CounterLimits.{limits, low_in}
+use Rattle.lg_model.proofs.LowCounters.{limits, low_in}
 
 -- between the truth, up to the limit, and the limit
 abbrev Between : (limit t x : ℕ) → Type 0
@@ -41,8 +43,8 @@ value_above limit t (x ∷ xs) all =
 
 -- a known bucket stands between
 record IsKnown (sum most : ℕ) (b : Bucket) : Type 0 where
-  bytes : Between MAX_BYTES sum b.bytes
-  delay : Between MAX_DELAY most b.delay
+  bytes : Between LAST_BYTES sum b.bytes
+  delay : Between LAST_DELAY most b.delay
 
 kept : {X Y : Type 0} (P : Y → Type 0) (h : X → Option Y) (xs : List X) → All (λ x. IfSome (h x) P) xs → All P (filter_map h xs)
 kept P h [] all = All-nil P
@@ -69,7 +71,7 @@ table_is shape xs = fold_table shape xs (zero_table shape) (record {
 })
 
 -- the bucket of a row in a column of a table
-in_column : (w : Scenario) (s e i j : ℕ) → i < w.shape.rows → bucket_in (column w s e j) i ≡ bucket_at (frozen w s e) i j
+in_column : (w : Scenario) (s e i j : ℕ) → i < w.shape.rows → bucket_in (frozen_cells w s e j).buckets i ≡ bucket_at (frozen w s e) i j
 in_column w s e i j h =
     let is : IsTable w.shape (frozen w s e) = table_is w.shape (seen w s e) in
     get_or-map (λ (row : List Bucket). bucket_in row j) (frozen w s e) i [] zero_bucket (subst (λ n. i < n) (sym is.rows) h)
@@ -85,18 +87,18 @@ all_known look w name s e f wide agrees =
     let above : IsBound w.shape (seen w s e) f i = bound w.shape (seen w s e) f i inside wide in
     let below : IsLow (bucket_at (frozen w s e) i j) = low_in _ j (All-get_or (All IsLow) (frozen w s e) i [] (subst (λ n. i < n) (sym is.rows) inside) (limits w.shape (seen w s e))) in
     let fits : P (bucket_at (frozen w s e) i j) = record { bytes = (above.bytes, below.bytes); delay = (above.delay, below.delay) } in
-    (elim (look name e j) as (λ o. IfSome o (λ buckets. buckets ≡ column w s e j) → IfSome (option_map (λ (buckets : List Bucket). bucket_in buckets i) o) P) [
+    (elim (look name e j) as (λ o. IfSome o (λ cells. cells ≡ frozen_cells w s e j) → IfSome (option_map (λ (x : Cells). bucket_in x.buckets i) o) P) [
       | None ↦ λ q. tt
-      | Some buckets ↦ λ q. subst P (sym (ap (λ (bs : List Bucket). bucket_in bs i) q ∙ in_column w s e i j inside)) fits
+      | Some cells ↦ λ q. subst P (sym (ap (λ (x : Cells). bucket_in x.buckets i) q ∙ in_column w s e i j inside)) fits
     ]) (agrees j)))
 
-known_bytes : (sum most : ℕ) (bs : List Bucket) → All (IsKnown sum most) bs → All (Between MAX_BYTES sum) (map (λ (b : Bucket). b.bytes) bs)
-known_bytes sum most [] all = All-nil (Between MAX_BYTES sum)
-known_bytes sum most (b ∷ bs) all = All-cons (Between MAX_BYTES sum) b.bytes (map (λ (b : Bucket). b.bytes) bs) (All-head (IsKnown sum most) b bs all).bytes (known_bytes sum most bs (All-tail (IsKnown sum most) b bs all))
+known_bytes : (sum most : ℕ) (bs : List Bucket) → All (IsKnown sum most) bs → All (Between LAST_BYTES sum) (map (λ (b : Bucket). b.bytes) bs)
+known_bytes sum most [] all = All-nil (Between LAST_BYTES sum)
+known_bytes sum most (b ∷ bs) all = All-cons (Between LAST_BYTES sum) b.bytes (map (λ (b : Bucket). b.bytes) bs) (All-head (IsKnown sum most) b bs all).bytes (known_bytes sum most bs (All-tail (IsKnown sum most) b bs all))
 
-known_delay : (sum most : ℕ) (bs : List Bucket) → All (IsKnown sum most) bs → All (Between MAX_DELAY most) (map (λ (b : Bucket). b.delay) bs)
-known_delay sum most [] all = All-nil (Between MAX_DELAY most)
-known_delay sum most (b ∷ bs) all = All-cons (Between MAX_DELAY most) b.delay (map (λ (b : Bucket). b.delay) bs) (All-head (IsKnown sum most) b bs all).delay (known_delay sum most bs (All-tail (IsKnown sum most) b bs all))
+known_delay : (sum most : ℕ) (bs : List Bucket) → All (IsKnown sum most) bs → All (Between LAST_DELAY most) (map (λ (b : Bucket). b.delay) bs)
+known_delay sum most [] all = All-nil (Between LAST_DELAY most)
+known_delay sum most (b ∷ bs) all = All-cons (Between LAST_DELAY most) b.delay (map (λ (b : Bucket). b.delay) bs) (All-head (IsKnown sum most) b bs all).delay (known_delay sum most bs (All-tail (IsKnown sum most) b bs all))
 
 pub true_answer : LawOfTheAnswer
 true_answer look w name s e f wide agrees =
@@ -105,6 +107,6 @@ true_answer look w name s e f wide agrees =
     let rows = known look w.shape name e f in
     let all : All (IsKnown sum most) rows = all_known look w name s e f wide agrees in
     record {
-      bytes = value_above MAX_BYTES sum (map (λ (b : Bucket). b.bytes) rows) (known_bytes sum most rows all);
-      delay = value_above MAX_DELAY most (map (λ (b : Bucket). b.delay) rows) (known_delay sum most rows all);
+      bytes = value_above LAST_BYTES sum (map (λ (b : Bucket). b.bytes) rows) (known_bytes sum most rows all);
+      delay = value_above LAST_DELAY most (map (λ (b : Bucket). b.delay) rows) (known_delay sum most rows all);
     }

@@ -1,7 +1,6 @@
 -- What came to the hosts after some of the steps.
-use Rattle.std.specs.Prelude.{◌≡◌, ◌≢◌, ℕ, zero, suc, ◌+◌, ◌-◌, ◌<◌, ◌≤◌, ◌⊎◌, Bool, true, false, cond, ◌==◌, ◌&&◌, List, [], ◌∷◌, ◌++◌, map, take, drop, length, reverse, filter, replicate, Option, Some, None, count_by, slice_get, slice_index_or, All}
+use Rattle.std.specs.Prelude.{◌≡◌, ◌≢◌, ℕ, zero, suc, ◌+◌, ◌-◌, ◌<◌, ◌≤◌, ◌⊎◌, Bool, true, false, cond, ◌==◌, ◌&&◌, List, [], ◌∷◌, ◌++◌, map, take, drop, length, reverse, filter, replicate, Option, Some, None, count_by, slice_get, slice_index_or, All, slice_set}
 use Rattle.std.specs.List.{flat_map, filter_map, enumerate_from, find}
-use Rattle.std.specs.Prelude.{slice_set}
 use Rattle.std.specs.Option.{option_map, option_or}
 use Rattle.std.proofs.Common.{refl, sym, ap, ◌∙◌, subst, arith, inl, inr, zero-add, add-zero, append-nil, append_assoc, eq-eqb, take-take}
 use Rattle.std.proofs.lemmas.List.{take_more, length-take, length-drop, length-append, map-append, length-set, get_or-set_same, get_or-set_other, reverse-append, drop-append-le}
@@ -20,7 +19,9 @@ use Rattle.lg_model.specs.declared.scenario.Fate.{Fate}
 use Rattle.lg_model.specs.declared.scenario.Fate.TheVariants.{Straight, Lost, Twice, Late}
 use Rattle.lg_model.specs.Trace.{packets_until, Packet, packets, packet_of, packets_of}
 use Rattle.lg_model.specs.Carrying.{Carry}
-use Rattle.lg_model.specs.Arriving.{Column, column_of, is_release, is_late, arrives, released, is_held, held, arrives_of, arrivals_at, arrivals_until, cargo, packet_at, no_packet, brings, deliveries, for_host, AreDelivered, packets_to, sent_by, arrived_to, held_to}
+use Rattle.lg_model.specs.Arriving.{column_of, is_release, is_late, arrives, released, is_held, held, arrives_of, arrivals_at, arrivals_until, cargo, packet_at, no_packet, brings, deliveries, for_host}
+use Rattle.lg_model.specs.Columns.{Column}
+use Rattle.lg_model.specs.Midway.{AreDelivered, packets_to, sent_by, arrived_to, held_to}
 use Rattle.lg_model.specs.declared.scenario.Step.TheVariants as steps
 use Rattle.lg_model.specs.Matching.{Matched}
 use Rattle.lg_model.proofs.Pairing.{matched_push}
@@ -268,7 +269,7 @@ all_held_below p k a (x ∷ ps) h =
 pub held_below : (w : Scenario) (n k : ℕ) → length (packets_until w n) ≤ k → All (λ i. i < k) (held w n)
 held_below w n k h = all_held_below (is_held w n) k 0 (packets_until w n) (omega arith)
 
-until_more : (w : Scenario) (n : ℕ) → n < length w.steps → length (packets_until w (n + 1)) ≡ length (packets_until w n) + length (packets_of w.flows (n, step_at w n))
+pub until_more : (w : Scenario) (n : ℕ) → n < length w.steps → length (packets_until w (n + 1)) ≡ length (packets_until w n) + length (packets_of w.flows (n, step_at w n))
 until_more w n h = ap length (packets_more w n h) ∙ length-append (packets_until w n) (packets_of w.flows (n, step_at w n))
 
 pub arrivals_below : (w : Scenario) (n k : ℕ) → n ≤ length w.steps → length (packets_until w n) ≤ k → All (λ i. i < k) (arrivals_until w n)

@@ -1,6 +1,5 @@
 -- A flow's buckets stay above what was counted of it.
-use Rattle.std.specs.Prelude.{◌≡◌, ◌≢◌, ℕ, ◌+◌, ◌<◌, ◌≤◌, ◌⊎◌, Bool, true, false, cond, List, [], ◌∷◌, length, fold, min, max, slice_index_or, replicate, filter}
-use Rattle.std.specs.Prelude.{sum_by, slice_index}
+use Rattle.std.specs.Prelude.{◌≡◌, ◌≢◌, ℕ, ◌+◌, ◌<◌, ◌≤◌, ◌⊎◌, Bool, true, false, cond, List, [], ◌∷◌, length, fold, min, max, slice_index_or, replicate, filter, sum_by, slice_index}
 use Rattle.std.proofs.lemmas.List.FromFn.{get_or-map-range_with_len}
 use Rattle.std.proofs.Common.{refl, sym, ap, ◌∙◌, subst, arith, inl, inr, mod-lt, zero-add, add-zero}
 use Rattle.std.proofs.lemmas.List.{length-replicate, get_or-replicate}
@@ -9,7 +8,8 @@ use Rattle.std.proofs.lemmas.Bool.Decides.{eqb_tells}
 use Rattle.flow_key.specs.declared.key.FlowKey.{FlowKey}
 use Rattle.lg_model.specs.Placing.{Shape, place, places_of, same_key}
 use Rattle.lg_model.specs.Trace.{Observation, sum_of, most_of, of_flow}
-use Rattle.lg_model.specs.Sketch.{Table, IsTable, bucket_at, zero_bucket, zero_table, least_to, raised, raise, raise_by, table_of, MAX_BYTES, MAX_DELAY}
+use Rattle.lg_model.specs.Sketch.{Table, IsTable, bucket_at, zero_bucket, zero_table, least_to, raised, raise, raise_by, table_of}
+use Rattle.lg_model.specs.declared.limits.TheConstants.{LAST_BYTES, LAST_DELAY}
 use Rattle.lg_model.specs.Bound.{IsBound, LawOfTheBound}
 use Rattle.lg_model.proofs.Keys.{same_key-true}
 use Rattle.lg_model.proofs.Raising.{row_of, bucket_raised_same, bucket_raised_other, length-raise, width-raise, least_to_is_above}
@@ -23,8 +23,8 @@ at_is shape f i h = get_or-map-range_with_len (place shape f) 0 shape.rows i i 0
 
 -- a flow's buckets are not below these
 pub record IsAbove (shape : Shape) (f : FlowKey) (sum most : ℕ) (t : Table) : Type 0 where
-  pub bytes : (i : ℕ) → i < shape.rows → min MAX_BYTES sum ≤ (bucket_at t i (at shape f i)).bytes
-  pub delay : (i : ℕ) → i < shape.rows → min MAX_DELAY most ≤ (bucket_at t i (at shape f i)).delay
+  pub bytes : (i : ℕ) → i < shape.rows → min LAST_BYTES sum ≤ (bucket_at t i (at shape f i)).bytes
+  pub delay : (i : ℕ) → i < shape.rows → min LAST_DELAY most ≤ (bucket_at t i (at shape f i)).delay
 
 pub IsTable-raise : (shape : Shape) (at : ℕ → ℕ) (v d : ℕ) (t : Table) → IsTable shape t → IsTable shape (raise at v d t)
 IsTable-raise shape at v d t is = record {
@@ -66,8 +66,8 @@ above_same : (shape : Shape) (f : FlowKey) (v d s m : ℕ) (t : Table) → 0 < s
 above_same shape f v d s m t wide is above = record {
   bytes = λ i h. let in_t : i < length t = subst (λ n. i < n) (sym is.rows) h in
       let e = bucket_raised_same (at shape f) v d t i in_t (inside_row shape f t i wide is in_t) in
-      let least : min MAX_BYTES s ≤ least_to (at shape f) t i =
-      least_to_is_above (at shape f) t i (min MAX_BYTES s) (omega arith) (λ k in_k. above.bytes k (subst (λ n. k < n) is.rows in_k)) in
+      let least : min LAST_BYTES s ≤ least_to (at shape f) t i =
+      least_to_is_above (at shape f) t i (min LAST_BYTES s) (omega arith) (λ k in_k. above.bytes k (subst (λ n. k < n) is.rows in_k)) in
       rw e (omega arith);
   delay = λ i h. let in_t : i < length t = subst (λ n. i < n) (sym is.rows) h in
       let e = bucket_raised_same (at shape f) v d t i in_t (inside_row shape f t i wide is in_t) in

@@ -1,7 +1,7 @@
 pub mod Keys
 pub mod Raising
 pub mod Bounding
-pub mod CounterLimits
+pub mod LowCounters
 pub mod Answering
 pub mod Tracing
 pub mod Running
@@ -11,3 +11,4 @@ pub mod Allowing
 pub mod Pairing
 pub mod Arrivals
 pub mod Cargo
+pub mod ArrivalCounts

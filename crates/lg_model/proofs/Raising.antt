@@ -9,7 +9,8 @@ use Rattle.std.proofs.lemmas.List.Elements.{All-from_get_or, All-take, recursion
 use Rattle.std.proofs.lemmas.Bool.Decides.{eqb_tells}
 use Rattle.lg_model.specs.Placing.{Shape}
 use Rattle.lg_model.specs.declared.column.Bucket.{Bucket}
-use Rattle.lg_model.specs.Sketch.{Table, bucket_in, bucket_at, zero_bucket, sum_in, sums_at, least_to, raised, raised_row, raise, MAX_BYTES}
+use Rattle.lg_model.specs.Sketch.{Table, bucket_in, bucket_at, zero_bucket, sum_in, sums_at, least_to, raised, raised_row, raise}
+use Rattle.lg_model.specs.declared.limits.TheConstants.{LAST_BYTES}
 
 -- the row of a table
 abbrev pub row_of : Table → ℕ → List Bucket
@@ -46,20 +47,20 @@ least_is_above : (m a : ℕ) (xs : List ℕ) → m ≤ a → AllByRecursion (λ 
 least_is_above m a [] h all = h
 least_is_above m a (x ∷ xs) h all = let first = all.0 in least_is_above m (min a x) xs (omega arith) all.1
 
-pub least_to_is_above : (at : ℕ → ℕ) (t : Table) (i m : ℕ) → m ≤ MAX_BYTES → ((k : ℕ) → k < length t → m ≤ (bucket_at t k (at k)).bytes) → m ≤ least_to at t i
+pub least_to_is_above : (at : ℕ → ℕ) (t : Table) (i m : ℕ) → m ≤ LAST_BYTES → ((k : ℕ) → k < length t → m ≤ (bucket_at t k (at k)).bytes) → m ≤ least_to at t i
 least_to_is_above at t i m small each =
     let P : ℕ → Type 0 = λ x. m ≤ x in
     let len : length (sums_at at t) ≡ length t = length-map (enumerate_from 0 t) (sum_in at) ∙ length-enumerate_from 0 t in
     let sums : All P (sums_at at t) = All-from_get_or P (sums_at at t) 0 (λ k h. let in_t : k < length t = omega arith in subst P (sym (sum_at at t k in_t)) (each k in_t)) in
-    least_is_above m MAX_BYTES (take (i + 1) (sums_at at t)) small (recursion_from_All P _ (All-take P (i + 1) _ sums))
+    least_is_above m LAST_BYTES (take (i + 1) (sums_at at t)) small (recursion_from_All P _ (All-take P (i + 1) _ sums))
 
 -- the least old sum up to a row, from that up to the row before
 pub least_next : (at : ℕ → ℕ) (t : Table) (i : ℕ) → i < length t →
-    min (fold min MAX_BYTES (take i (sums_at at t))) (bucket_at t i (at i)).bytes ≡ least_to at t i
+    min (fold min LAST_BYTES (take i (sums_at at t))) (bucket_at t i (at i)).bytes ≡ least_to at t i
 least_next at t i h =
     let len : length (sums_at at t) ≡ length t = length-map (enumerate_from 0 t) (sum_in at) ∙ length-enumerate_from 0 t in
     let inside : i < length (sums_at at t) = omega arith in
-    ap (min (fold min MAX_BYTES (take i (sums_at at t)))) (sym (sum_at at t i h)) ∙ sym (fold_more min MAX_BYTES (sums_at at t) i 0 inside)
+    ap (min (fold min LAST_BYTES (take i (sums_at at t)))) (sym (sum_at at t i h)) ∙ sym (fold_more min LAST_BYTES (sums_at at t) i 0 inside)
 
 -- a table whose rows are all raised is the table after the packet
 pub raise_by_rows : (at : ℕ → ℕ) (v d : ℕ) (t u : Table) → length u ≡ length t →
@@ -70,7 +71,7 @@ raise_by_rows at v d t u len each =
 
 -- one row's step: the least sum handed on, and the row
 pub step_at : (at : ℕ → ℕ) (v d : ℕ) (t : Table) (i place running least : ℕ) (row new : List Bucket) → i < length t → place ≡ at i → row ≡ row_of t i →
-    running ≡ fold min MAX_BYTES (take i (sums_at at t)) → least ≡ min running (bucket_in row place).bytes → new ≡ slice_set row place (raised (bucket_in row place) least v d) →
+    running ≡ fold min LAST_BYTES (take i (sums_at at t)) → least ≡ min running (bucket_in row place).bytes → new ≡ slice_set row place (raised (bucket_in row place) least v d) →
     (least ≡ least_to at t i) × (new ≡ raised_row at t v d (i, row_of t i))
 step_at at v d t i place running least row new h place_is row_is running_is least_is new_is =
     let sum : least ≡ least_to at t i = least_is ∙ rw (running_is, row_is, place_is) (least_next at t i h) in

@@ -1,6 +1,6 @@
 -- What a switch has seen after some of the steps.
-use Rattle.std.specs.Prelude.{◌≡◌, ◌≢◌, ℕ, zero, suc, ◌+◌, ◌-◌, ◌*◌, ◌<◌, ◌≤◌, Bool, true, false, cond, ◌==◌, ◌&&◌, List, [], ◌∷◌, ◌++◌, map, length, take, drop, fold, replicate, Option, None, Some, slice_index_or, count_by, All}
-use Rattle.std.specs.List.{flat_map, filter_map, enumerate_from}
+use Rattle.std.specs.Prelude.{◌≡◌, ◌≢◌, ℕ, zero, suc, ◌+◌, ◌-◌, ◌*◌, ◌<◌, ◌≤◌, Bool, true, false, cond, ◌==◌, ◌&&◌, List, [], ◌∷◌, ◌++◌, map, length, take, drop, fold, replicate, Option, None, Some, slice_index_or, count_by, if◌then◌else◌, All}
+use Rattle.std.specs.List.{flat_map, filter_map, enumerate_from, cons_option}
 use Rattle.std.proofs.Common.{refl, sym, ap, ◌∙◌, subst, arith, zero-add, add-one, append-nil, take_all, append_assoc, inl, inr, take-take, add-zero}
 use Rattle.std.proofs.lemmas.List.{take_more, length-take, take-append-drop}
 use Rattle.std.proofs.lemmas.List.Elements.{filter_map-append, All-nil, All-append, All-replicate, All-weaker, All-map, All-head, All-tail}
@@ -18,6 +18,7 @@ use Rattle.lg_model.specs.declared.scenario.Step.TheVariants as steps
 use Rattle.lg_model.specs.declared.scenario.Step.TheVariants.{End, EndAll, Release}
 use Rattle.lg_model.specs.Trace.{packets_until, Packet, packets, packet_of, packets_of, Meeting, meeting_of, meetings_of, meetings_in, meetings, reach, ended_before, observed, observation, Observation, seen_in, seen}
 use Rattle.lg_model.specs.Sketch.{Table, zero_table, table_of, raise_by, frozen}
+use Rattle.lg_model.specs.Settled.{BeginAlike, LawOfTheFrozen}
 
 pub enumerate_from-append : {X : Type 0} (a : ℕ) (xs ys : List X) → enumerate_from a (xs ++ ys) ≡ enumerate_from a xs ++ enumerate_from (a + length xs) ys
 enumerate_from-append a [] ys = ap (λ n. enumerate_from n ys) (let e : a ≡ a + 0 = omega arith in e)
@@ -140,6 +141,38 @@ frozen_is w s e n h past =
     (λ p low same. let up : ended w s n ≤ ended w s p.step_at = ended_rises w s n p.step_at low in let no : ⊥ = omega arith in no) (packets_from w n) (packets_after w n)) in
     ap (table_of w.shape) (ap (seen_in w s e) all ∙ filter_map-append (observed w s e) (meetings_in ps) rest
     ∙ ap (λ xs. seen_in w s e (meetings_in ps) ++ xs) (seen_none w s e rest after) ∙ append-nil (seen_in w s e (meetings_in ps)))
+
+-- scenarios that begin alike end the same epochs in their first steps, and see the same there
+ended_alike : (v w : Scenario) (s i n : ℕ) → BeginAlike n v w → i ≤ n → ended v s i ≡ ended w s i
+ended_alike v w s i n alike h =
+    ap (count_by (is_end_of s)) (sym (take-take i n v.steps h) ∙ ap (take i) alike.steps ∙ take-take i n w.steps h)
+
+seen_alike : (v w : Scenario) (s e n : ℕ) (ms : List Meeting) → BeginAlike n v w → All (λ (m : Meeting). m.step_at < n) ms → seen_in v s e ms ≡ seen_in w s e ms
+seen_alike v w s e n [] alike early = refl
+seen_alike v w s e n (m ∷ ms) alike early =
+    let low : m.step_at < n = All-head (λ (x : Meeting). x.step_at < n) m ms early in
+    let same : ended_before v m ≡ ended_before w m = ended_alike v w m.switch_at m.step_at n alike (omega arith) in
+    let rest = seen_alike v w s e n ms alike (All-tail (λ (x : Meeting). x.step_at < n) m ms early) in
+    ap (λ (k : ℕ). cons_option (if m.switch_at == s && k == e then Some (observation m) else None) (seen_in v s e ms)) same
+    ∙ ap (λ (xs : List Observation). cons_option (observed w s e m) xs) rest
+
+packets_alike : (v w : Scenario) (n : ℕ) → BeginAlike n v w → packets_until v n ≡ packets_until w n
+packets_alike v w n alike = λ i. flat_map (packets_of (alike.flows i)) (enumerate_from 0 (alike.steps i))
+
+frozen_alike : (v w : Scenario) (s e n : ℕ) → n ≤ length v.steps → n ≤ length w.steps → BeginAlike n v w → e < ended w s n → frozen v s e ≡ frozen w s e
+frozen_alike v w s e n hv hw alike past =
+    let past_v : e < ended v s n = subst (λ k. e < k) (sym (ended_alike v w s n n alike (omega arith))) past in
+    let same : packets_until v n ≡ packets_until w n = packets_alike v w n alike in
+    let ms = meetings_in (packets_until w n) in
+    let early : All (λ (m : Meeting). m.step_at < n) ms = meetings_keep (λ a. a < n) 0 (packets_until w n) (packets_before w n hw) in
+    frozen_is v s e n hv past_v
+    ∙ ap (λ ps. table_of v.shape (seen_in v s e (meetings_in ps))) same
+    ∙ ap (table_of v.shape) (seen_alike v w s e n ms alike early)
+    ∙ ap (λ shape. table_of shape (seen_in w s e ms)) alike.shape
+    ∙ sym (frozen_is w s e n hw past)
+
+pub law_of_the_frozen : LawOfTheFrozen
+law_of_the_frozen = record { settled = frozen_is; alike = frozen_alike }
 
 -- the packets are as many as the steps send
 packets_count : (flows : List Flow) (n : ℕ) (xs : List Step) → length (flat_map (packets_of flows) (enumerate_from n xs)) ≡ packet_count xs

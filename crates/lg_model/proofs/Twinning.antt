@@ -15,7 +15,7 @@ use Rattle.lg_model.specs.declared.scenario.Step.TheVariants.{End, EndAll, Relea
 use Rattle.lg_model.specs.Trace.{packets_until, Packet, packets_of, Meeting, meetings_in, ended_before, observed, observation, Observation, seen_in}
 use Rattle.lg_model.specs.Sketch.{Table, zero_table, table_of, raise_by, frozen}
 use Rattle.lg_model.specs.Carrying.{Carry, is_out, is_out_at, times_of}
-use Rattle.lg_model.specs.Twin.{Twin, new_twin, with_seen, with_put, with_end, IsTwin, IsPast, AreTwins}
+use Rattle.lg_model.specs.TwinsState.{TwinsState, new_twins, with_seen, with_put, with_end, IsTwinsState, IsPast, AreTwins}
 use Rattle.lg_model.specs.declared.scenario.Step.TheVariants as steps
 use Rattle.lg_model.proofs.Tracing.{packets_more, packets_before, meetings_keep, step_at, ended_more, ended_rises, seen_none, frozen_is}
 
@@ -36,36 +36,36 @@ seen_push_other w s e ms m other =
     filter_map-append (observed w s e) ms (m ∷ []) ∙ (rw none (append-nil (seen_in w s e ms)))
 
 -- the packet of a meeting is counted
-pub twins_see : (w : Scenario) (n : ℕ) (ms : List Meeting) (cs : List Carry) (ts : List Twin) (m : Meeting) (d : Twin) → AreTwins w n ms cs ts →
+pub twins_see : (w : Scenario) (n : ℕ) (ms : List Meeting) (cs : List Carry) (ts : List TwinsState) (m : Meeting) (d : TwinsState) → AreTwins w n ms cs ts →
     m.step_at ≡ n → m.switch_at < length ts →
     AreTwins w n (ms ++ m ∷ []) cs (slice_set ts m.switch_at (with_seen (slice_index_or ts m.switch_at d) (observation m)))
 twins_see w n ms cs ts m d all at inside =
     let s = m.switch_at in
-    let t : Twin = slice_index_or ts s d in
-    let t' : Twin = with_seen t (observation m) in
-    let ts' : List Twin = slice_set ts s t' in
+    let t : TwinsState = slice_index_or ts s d in
+    let t' : TwinsState = with_seen t (observation m) in
+    let ts' : List TwinsState = slice_set ts s t' in
     let long : length ts' ≡ length ts = length-set ts s t' in
     record {
       count = long ∙ all.count;
       past = all.past;
       each = λ r e h. elim (eqb_tells s r) [
         | inl same ↦
-            let is : IsTwin w n ms cs s t = all.each s d inside in
+            let is : IsTwinsState w n ms cs s t = all.each s d inside in
             let now : ended_before w m ≡ ended w s n = ap (ended w s) at in
             let cur : raise_by t.shape t.current (observation m) ≡ table_of w.shape (seen_in w s (ended w s n) (ms ++ m ∷ [])) =
             rw (is.shape, is.current) (sym (ap (table_of w.shape) (seen_push_here w s (ended w s n) ms m refl now) ∙ fold-append (raise_by w.shape) (zero_table w.shape) (seen_in w s (ended w s n) ms) (observation m ∷ []))) in
-            let here : IsTwin w n (ms ++ m ∷ []) cs s t' = record { shape = is.shape; epoch = is.epoch; current = cur; frozen = is.frozen; put = is.put; times = is.times } in
-            let P : Twin → Type 0 = IsTwin w n (ms ++ m ∷ []) cs s in
+            let here : IsTwinsState w n (ms ++ m ∷ []) cs s t' = record { shape = is.shape; epoch = is.epoch; current = cur; frozen = is.frozen; put = is.put; times = is.times } in
+            let P : TwinsState → Type 0 = IsTwinsState w n (ms ++ m ∷ []) cs s in
             let there : P (slice_index_or ts' s e) = subst P (sym (get_or-set_same ts s t' e inside)) here in
-            subst (λ (q : ℕ). IsTwin w n (ms ++ m ∷ []) cs q (slice_index_or ts' q e)) same.1 there
+            subst (λ (q : ℕ). IsTwinsState w n (ms ++ m ∷ []) cs q (slice_index_or ts' q e)) same.1 there
         | inr other ↦
             let low : r < length ts = omega (arith, long) in
             let ne : r ≢ s = λ q. other.1 (sym q) in
-            let is : IsTwin w n ms cs r (slice_index_or ts r e) = all.each r e low in
+            let is : IsTwinsState w n ms cs r (slice_index_or ts r e) = all.each r e low in
             let cur : (slice_index_or ts r e).current ≡ table_of w.shape (seen_in w r (ended w r n) (ms ++ m ∷ [])) =
             is.current ∙ ap (table_of w.shape) (sym (seen_push_other w r (ended w r n) ms m other.0)) in
-            let here : IsTwin w n (ms ++ m ∷ []) cs r (slice_index_or ts r e) = record { shape = is.shape; epoch = is.epoch; current = cur; frozen = is.frozen; put = is.put; times = is.times } in
-            subst (IsTwin w n (ms ++ m ∷ []) cs r) (sym (get_or-set_other ts s r t' e ne)) here
+            let here : IsTwinsState w n (ms ++ m ∷ []) cs r (slice_index_or ts r e) = record { shape = is.shape; epoch = is.epoch; current = cur; frozen = is.frozen; put = is.put; times = is.times } in
+            subst (IsTwinsState w n (ms ++ m ∷ []) cs r) (sym (get_or-set_other ts s r t' e ne)) here
       ];
     }
 
@@ -111,37 +111,37 @@ times_zero width s e cs none =
     fill_by_all (λ k. count_by (is_out_at s e k) cs) (replicate width 0) width 0 (length-replicate width 0) (λ k h. get_or-replicate width k 0 0 h ∙ sym (none k))
 
 -- a column is put out
-pub twins_put : (w : Scenario) (n : ℕ) (ms : List Meeting) (cs : List Carry) (ts : List Twin) (c : Carry) (d : Twin) → AreTwins w n ms cs ts →
+pub twins_put : (w : Scenario) (n : ℕ) (ms : List Meeting) (cs : List Carry) (ts : List TwinsState) (c : Carry) (d : TwinsState) → AreTwins w n ms cs ts →
     c.switch_at < length ts → c.epoch + 1 ≡ ended w c.switch_at n → c.index < w.shape.width →
     AreTwins w n ms (cs ++ c ∷ []) (slice_set ts c.switch_at (with_put (slice_index_or ts c.switch_at d) c.index))
 twins_put w n ms cs ts c d all inside epoch low_index =
     let s = c.switch_at in
-    let t : Twin = slice_index_or ts s d in
-    let t' : Twin = with_put t c.index in
-    let ts' : List Twin = slice_set ts s t' in
+    let t : TwinsState = slice_index_or ts s d in
+    let t' : TwinsState = with_put t c.index in
+    let ts' : List TwinsState = slice_set ts s t' in
     let long : length ts' ≡ length ts = length-set ts s t' in
     record {
       count = long ∙ all.count;
       past = All-push (IsPast w n) cs c all.past (omega arith);
       each = λ r e h. elim (eqb_tells s r) [
         | inl same ↦
-            let is : IsTwin w n ms cs s t = all.each s d inside in
+            let is : IsTwinsState w n ms cs s t = all.each s d inside in
             let yes : is_out s (ended w s n) c ≡ true = rw (eq-eqb s s refl, eq-eqb (c.epoch + 1) (ended w s n) epoch) refl in
             let more : t.put + 1 ≡ count_by (is_out s (ended w s n)) (cs ++ c ∷ []) = rw is.put (sym (count_push (is_out s (ended w s n)) cs c ∙ (rw yes refl))) in
             let again : t'.times ≡ times_of w.shape.width s (ended w s n) (cs ++ c ∷ []) =
             ap (λ xs. slice_set xs c.index (slice_index xs c.index + 1)) is.times ∙ sym (times_push_here w.shape.width s (ended w s n) cs c yes low_index) in
-            let here : IsTwin w n ms (cs ++ c ∷ []) s t' = record { shape = is.shape; epoch = is.epoch; current = is.current; frozen = is.frozen; put = more; times = again } in
-            let there : IsTwin w n ms (cs ++ c ∷ []) s (slice_index_or ts' s e) = subst (IsTwin w n ms (cs ++ c ∷ []) s) (sym (get_or-set_same ts s t' e inside)) here in
-            subst (λ (q : ℕ). IsTwin w n ms (cs ++ c ∷ []) q (slice_index_or ts' q e)) same.1 there
+            let here : IsTwinsState w n ms (cs ++ c ∷ []) s t' = record { shape = is.shape; epoch = is.epoch; current = is.current; frozen = is.frozen; put = more; times = again } in
+            let there : IsTwinsState w n ms (cs ++ c ∷ []) s (slice_index_or ts' s e) = subst (IsTwinsState w n ms (cs ++ c ∷ []) s) (sym (get_or-set_same ts s t' e inside)) here in
+            subst (λ (q : ℕ). IsTwinsState w n ms (cs ++ c ∷ []) q (slice_index_or ts' q e)) same.1 there
         | inr other ↦
             let low : r < length ts = omega (arith, long) in
             let ne : r ≢ s = λ q. other.1 (sym q) in
-            let is : IsTwin w n ms cs r (slice_index_or ts r e) = all.each r e low in
+            let is : IsTwinsState w n ms cs r (slice_index_or ts r e) = all.each r e low in
             let no : is_out r (ended w r n) c ≡ false = rw other.0 refl in
             let same_put : (slice_index_or ts r e).put ≡ count_by (is_out r (ended w r n)) (cs ++ c ∷ []) =
             is.put ∙ sym (count_push (is_out r (ended w r n)) cs c ∙ (rw no (add-zero (count_by (is_out r (ended w r n)) cs)))) in
-            let here : IsTwin w n ms (cs ++ c ∷ []) r (slice_index_or ts r e) = record { shape = is.shape; epoch = is.epoch; current = is.current; frozen = is.frozen; put = same_put; times = is.times ∙ sym (times_push_other w.shape.width r (ended w r n) cs c no) } in
-            subst (IsTwin w n ms (cs ++ c ∷ []) r) (sym (get_or-set_other ts s r t' e ne)) here
+            let here : IsTwinsState w n ms (cs ++ c ∷ []) r (slice_index_or ts r e) = record { shape = is.shape; epoch = is.epoch; current = is.current; frozen = is.frozen; put = same_put; times = is.times ∙ sym (times_push_other w.shape.width r (ended w r n) cs c no) } in
+            subst (IsTwinsState w n ms (cs ++ c ∷ []) r) (sym (get_or-set_other ts s r t' e ne)) here
       ];
     }
 
@@ -169,7 +169,7 @@ none_out_at w s n e k (c ∷ cs) h all =
     rw no (none_out_at w s n e k cs h (All-tail (IsPast w n) c cs all))
 
 -- a step that ends no epoch of the switch
-twin_stays : (w : Scenario) (n : ℕ) (ms : List Meeting) (cs : List Carry) (s : ℕ) (t : Twin) → n < length w.steps → is_end_of s (step_at w n) ≡ false → IsTwin w n ms cs s t → IsTwin w (n + 1) ms cs s t
+twin_stays : (w : Scenario) (n : ℕ) (ms : List Meeting) (cs : List Carry) (s : ℕ) (t : TwinsState) → n < length w.steps → is_end_of s (step_at w n) ≡ false → IsTwinsState w n ms cs s t → IsTwinsState w (n + 1) ms cs s t
 twin_stays w n ms cs s t h keeps is =
     let same : ended w s (n + 1) ≡ ended w s n = ended_more w s n h ∙ ap (λ b. ended w s n + cond b 1 0) keeps ∙ add-zero (ended w s n) in
     record {
@@ -182,8 +182,8 @@ twin_stays w n ms cs s t h keeps is =
     }
 
 -- a step without packets that ends one
-twin_ends : (w : Scenario) (n : ℕ) (cs : List Carry) (s : ℕ) (t : Twin) → n < length w.steps → is_end_of s (step_at w n) ≡ true → packets_of w.flows (n, step_at w n) ≡ [] →
-    All (IsPast w n) cs → IsTwin w n (meetings_in (packets_until w n)) cs s t → IsTwin w (n + 1) (meetings_in (packets_until w n)) cs s (with_end t)
+twin_ends : (w : Scenario) (n : ℕ) (cs : List Carry) (s : ℕ) (t : TwinsState) → n < length w.steps → is_end_of s (step_at w n) ≡ true → packets_of w.flows (n, step_at w n) ≡ [] →
+    All (IsPast w n) cs → IsTwinsState w n (meetings_in (packets_until w n)) cs s t → IsTwinsState w (n + 1) (meetings_in (packets_until w n)) cs s (with_end t)
 twin_ends w n cs s t h ends quiet past is =
     let ms = meetings_in (packets_until w n) in
     let next : ended w s (n + 1) ≡ ended w s n + 1 = ended_more w s n h ∙ ap (λ b. ended w s n + cond b 1 0) ends in
@@ -210,19 +210,19 @@ past_stays w n cs h =
     All-weaker (IsPast w n) (IsPast w (n + 1)) (λ c low. let up : ended w c.switch_at n ≤ ended w c.switch_at (n + 1) = ended_rises w c.switch_at n (n + 1) (omega arith) in omega arith) cs h
 
 -- a step that ends no epoch
-pub twins_stay : (w : Scenario) (n : ℕ) (ms : List Meeting) (cs : List Carry) (ts : List Twin) → n < length w.steps → ((s : ℕ) → is_end_of s (step_at w n) ≡ false) → AreTwins w n ms cs ts → AreTwins w (n + 1) ms cs ts
+pub twins_stay : (w : Scenario) (n : ℕ) (ms : List Meeting) (cs : List Carry) (ts : List TwinsState) → n < length w.steps → ((s : ℕ) → is_end_of s (step_at w n) ≡ false) → AreTwins w n ms cs ts → AreTwins w (n + 1) ms cs ts
 twins_stay w n ms cs ts h keeps all = record {
   count = all.count;
   past = past_stays w n cs all.past;
   each = λ s d low. twin_stays w n ms cs s (slice_index_or ts s d) h (keeps s) (all.each s d low);
 }
 
-pub twins_end : (w : Scenario) (n s : ℕ) (cs : List Carry) (ts : List Twin) (d : Twin) → n < length w.steps → step_at w n ≡ End s → s < length ts →
+pub twins_end : (w : Scenario) (n s : ℕ) (cs : List Carry) (ts : List TwinsState) (d : TwinsState) → n < length w.steps → step_at w n ≡ End s → s < length ts →
     AreTwins w n (meetings_in (packets_until w n)) cs ts → AreTwins w (n + 1) (meetings_in (packets_until w (n + 1))) cs (slice_set ts s (with_end (slice_index_or ts s d)))
 twins_end w n s cs ts d h step inside all =
     let ms = meetings_in (packets_until w n) in
-    let t : Twin = slice_index_or ts s d in
-    let ts' : List Twin = slice_set ts s (with_end t) in
+    let t : TwinsState = slice_index_or ts s d in
+    let ts' : List TwinsState = slice_set ts s (with_end t) in
     let long : length ts' ≡ length ts = length-set ts s (with_end t) in
     let quiet : packets_of w.flows (n, step_at w n) ≡ [] = rw step refl in
     let same_packets : packets_until w (n + 1) ≡ packets_until w n = packets_more w n h ∙ ap (λ ps. packets_until w n ++ ps) quiet ∙ append-nil (packets_until w n) in
@@ -232,19 +232,19 @@ twins_end w n s cs ts d h step inside all =
       past = past_stays w n cs all.past;
       each = λ r e low. elim (eqb_tells s r) [
         | inl same ↦
-            let here : IsTwin w (n + 1) ms cs s (with_end t) = twin_ends w n cs s t h ends quiet all.past (all.each s d inside) in
-            let there : IsTwin w (n + 1) ms cs s (slice_index_or ts' s e) = subst (IsTwin w (n + 1) ms cs s) (sym (get_or-set_same ts s (with_end t) e inside)) here in
-            subst (λ (q : ℕ). IsTwin w (n + 1) ms cs q (slice_index_or ts' q e)) same.1 there
+            let here : IsTwinsState w (n + 1) ms cs s (with_end t) = twin_ends w n cs s t h ends quiet all.past (all.each s d inside) in
+            let there : IsTwinsState w (n + 1) ms cs s (slice_index_or ts' s e) = subst (IsTwinsState w (n + 1) ms cs s) (sym (get_or-set_same ts s (with_end t) e inside)) here in
+            subst (λ (q : ℕ). IsTwinsState w (n + 1) ms cs q (slice_index_or ts' q e)) same.1 there
         | inr other ↦
             let ne : r ≢ s = λ q. other.1 (sym q) in
             let keeps : is_end_of r (step_at w n) ≡ false = rw (step, other.0) refl in
-            subst (IsTwin w (n + 1) ms cs r) (sym (get_or-set_other ts s r (with_end t) e ne))
+            subst (IsTwinsState w (n + 1) ms cs r) (sym (get_or-set_other ts s r (with_end t) e ne))
             (twin_stays w n ms cs r (slice_index_or ts r e) h keeps (all.each r e (omega (arith, long))))
       ];
     } in
     subst (λ ps. AreTwins w (n + 1) (meetings_in ps) cs ts') (sym same_packets) new
 
-pub twins_end_all : (w : Scenario) (n : ℕ) (cs : List Carry) (ts : List Twin) → n < length w.steps → step_at w n ≡ EndAll →
+pub twins_end_all : (w : Scenario) (n : ℕ) (cs : List Carry) (ts : List TwinsState) → n < length w.steps → step_at w n ≡ EndAll →
     AreTwins w n (meetings_in (packets_until w n)) cs ts → AreTwins w (n + 1) (meetings_in (packets_until w (n + 1))) cs (map with_end ts)
 twins_end_all w n cs ts h step all =
     let ms = meetings_in (packets_until w n) in
@@ -255,17 +255,17 @@ twins_end_all w n cs ts h step all =
       past = past_stays w n cs all.past;
       each = λ r e low.
           let inside : r < length ts = subst (λ (k : ℕ). r < k) (length-map ts with_end) low in
-          subst (IsTwin w (n + 1) ms cs r) (sym (get_or-map with_end ts r e e inside))
+          subst (IsTwinsState w (n + 1) ms cs r) (sym (get_or-map with_end ts r e e inside))
           (twin_ends w n cs r (slice_index_or ts r e) h (rw step refl) quiet all.past (all.each r e inside));
     } in
     subst (λ ps. AreTwins w (n + 1) (meetings_in ps) cs (map with_end ts)) (sym same_packets) new
 
 -- at the start
-pub twins_start : (w : Scenario) (ts : List Twin) → length ts ≡ length w.switches → All (λ t. t ≡ new_twin w.shape) ts → AreTwins w 0 [] [] ts
+pub twins_start : (w : Scenario) (ts : List TwinsState) → length ts ≡ length w.switches → All (λ t. t ≡ new_twins w.shape) ts → AreTwins w 0 [] [] ts
 twins_start w ts long all = record {
   count = long;
   past = All-nil (IsPast w 0);
   each = λ s d h.
-      let is : slice_index_or ts s d ≡ new_twin w.shape = All-get_or (λ (t : Twin). t ≡ new_twin w.shape) ts s d h all in
-      subst (IsTwin w 0 [] [] s) (sym is) (record { shape = refl; epoch = refl; current = refl; frozen = λ some. absurd (omega arith); put = refl; times = times_zero w.shape.width s 0 [] (λ k. refl) });
+      let is : slice_index_or ts s d ≡ new_twins w.shape = All-get_or (λ (t : TwinsState). t ≡ new_twins w.shape) ts s d h all in
+      subst (IsTwinsState w 0 [] [] s) (sym is) (record { shape = refl; epoch = refl; current = refl; frozen = λ some. absurd (omega arith); put = refl; times = times_zero w.shape.width s 0 [] (λ k. refl) });
 }

@@ -12,39 +12,40 @@ use Rattle.lg_model.specs.declared.answer.Value.{Value}
 use Rattle.lg_model.specs.declared.answer.Value.TheVariants.{Unknown, AtMost, Saturated}
 use Rattle.lg_model.specs.declared.column.Bucket.{Bucket}
 use Rattle.lg_model.specs.declared.column.Key.{Key}
+use Rattle.lg_model.specs.declared.limits.TheConstants.{LAST_BYTES, LAST_DELAY}
 use Rattle.lg_model.specs.Placing.{Shape, place}
-use Rattle.lg_model.specs.Sketch.{bucket_in, MAX_BYTES, MAX_DELAY}
-use Rattle.lg_model.specs.Arriving.{Column}
+use Rattle.lg_model.specs.Sketch.{bucket_in}
+use Rattle.lg_model.specs.Columns.{Cells, Column}
 
 -- Keys are ordered by switch, then by epoch, then by index.
 abbrev pub key_cmp : Key → Key → Ordering
 key_cmp a b = ordering_then (nat_cmp a.switch b.switch) (ordering_then (nat_cmp a.epoch b.epoch) (nat_cmp a.index b.index))
 
--- The content of a book: a finite map from keys to buckets, as the list of its pairs in the order of their keys.
+-- The content of a book: a finite map from keys to counters, as the list of its pairs in the order of their keys.
 abbrev pub Content : Type 0
-Content = List (Key × List Bucket)
+Content = List (Key × Cells)
 
 abbrev pub with_column : Content → Column → Content
-with_column content c = insert_entry key_cmp content c.key c.buckets
+with_column content c = insert_entry key_cmp content c.key c.cells
 
--- The content made of these columns. (Columns with one key have the same buckets, wherever it is used; else the last counts.)
+-- The content made of these columns. (Columns with one key have the same counters, wherever it is used; else the last counts.)
 abbrev pub content_of : List Column → Content
 content_of cs = fold with_column [] cs
 
--- The buckets under a key.
-abbrev pub found : Content → Key → Option (List Bucket)
+-- The counters under a key.
+abbrev pub found : Content → Key → Option Cells
 found content k = lookup (is_at (key_cmp k)) content
 
 -- What is kept under a switch, an epoch and an index.
 abbrev pub Look : Type 0
-Look = ℕ → ℕ → ℕ → Option (List Bucket)
+Look = ℕ → ℕ → ℕ → Option Cells
 
 abbrev pub look_in : Content → Look
 look_in content s e j = found content (record { switch = s; epoch = e; index = j })
 
 -- The bucket of a flow in row i, if the column at its place there is kept.
 abbrev pub known_at : Look → Shape → ℕ → ℕ → FlowKey → ℕ → Option Bucket
-known_at look shape s e f i = option_map (λ buckets. bucket_in buckets i) (look s e (place shape f i))
+known_at look shape s e f i = option_map (λ (x : Cells). bucket_in x.buckets i) (look s e (place shape f i))
 
 -- The known buckets of a flow, in the order of the rows.
 abbrev pub known : Look → Shape → ℕ → ℕ → FlowKey → List Bucket
@@ -58,4 +59,4 @@ value_of limit (x ∷ xs) = if fold min x xs == limit then Saturated else AtMost
 -- The answer for a flow at the switch of that name and in that epoch.
 abbrev pub answer : Look → Shape → ℕ → ℕ → FlowKey → Answer
 answer look shape s e f = let rows = known look shape s e f in
-    record { rows_known = length rows; bytes = value_of MAX_BYTES (map (λ (b : Bucket). b.bytes) rows); delay = value_of MAX_DELAY (map (λ (b : Bucket). b.delay) rows) }
+    record { rows_known = length rows; bytes = value_of LAST_BYTES (map (λ (b : Bucket). b.bytes) rows); delay = value_of LAST_DELAY (map (λ (b : Bucket). b.delay) rows) }

@@ -2,16 +2,14 @@
 use Rattle.std.specs.Prelude.{ℕ, ◌<◌, ◌≡◌, Bool, true, false, ◌==◌, ◌&&◌, List, [], ◌∷◌, ◌++◌, map, take, drop, length, reverse, filter, count_by, Option, None, Some, slice_index, slice_index_or, if◌then◌else◌}
 use Rattle.std.specs.List.{flat_map, filter_map, enumerate_from, find, range_with_len}
 use Rattle.std.specs.Option.{option_map}
-use Rattle.lg_model.specs.declared.column.Bucket.{Bucket}
-use Rattle.lg_model.specs.declared.column.Key.{Key}
 use Rattle.lg_model.specs.declared.scenario.Step.{Step}
 use Rattle.lg_model.specs.declared.scenario.Step.TheVariants as steps
 use Rattle.lg_model.specs.declared.scenario.Fate.{Fate}
 use Rattle.lg_model.specs.declared.scenario.Fate.TheVariants as fates
 use Rattle.lg_model.specs.Scenario.{Scenario, no_flow}
 use Rattle.lg_model.specs.Trace.{Packet, packets, packets_of, packets_until}
-use Rattle.lg_model.specs.Matching.{Matched}
-use Rattle.lg_model.specs.Sketch.{column}
+use Rattle.lg_model.specs.Columns.{Column, dims_of}
+use Rattle.lg_model.specs.Sketch.{frozen_cells}
 use Rattle.lg_model.specs.Carrying.{Carry}
 
 abbrev pub is_release : Step → Bool
@@ -61,16 +59,12 @@ arrivals_until w n = flat_map (arrivals_at w) (enumerate_from 0 (take n w.steps)
 abbrev pub arrivals : Scenario → List ℕ
 arrivals w = flat_map (arrivals_at w) (enumerate_from 0 w.steps) ++ reverse (held w (length w.steps))
 
--- A column with its key: the buckets of one index over all rows.
-pub record Column : Type 0 where
-  pub key : Key
-  pub buckets : List Bucket
-
 -- The frozen column that an entry of a carry list stands for, with the switch's name in its key.
 abbrev pub column_of : Scenario → Carry → Column
 column_of w c = record {
   key = record { switch = slice_index w.switches c.switch_at; epoch = c.epoch; index = c.index };
-  buckets = column w c.switch_at c.epoch c.index;
+  dims = dims_of w.shape;
+  cells = frozen_cells w c.switch_at c.epoch c.index;
 }
 
 -- The column that the packet of that number carries in the end.
@@ -103,21 +97,3 @@ brought w cs h = for_host h (deliveries w cs (arrivals w))
 -- Those of all hosts, host after host in the order of declaration.
 abbrev pub brought_to_all : Scenario → List Carry → List Column
 brought_to_all w cs = flat_map (brought w cs) (range_with_len 0 (length w.hosts))
-
--- What lies at the hosts after these deliveries, where `IsOf` says which thing stands for which column.
-pub record AreDelivered {X : Type 0} (IsOf : X → Column → Type 0) (ds : List (ℕ × Column)) (hosts : List (List X)) : Type 0 where
-  pub each : (h : ℕ) → h < length hosts → Matched IsOf (slice_index_or hosts h []) (for_host h ds)
-
--- The packets before the packet of number k, and those of them that the step at n sent, with their numbers.
-abbrev pub packets_to : Scenario → ℕ → List Packet
-packets_to w k = take k (packets w)
-
-abbrev pub sent_by : Scenario → ℕ → ℕ → List (ℕ × Packet)
-sent_by w n k = enumerate_from (length (packets_until w n)) (drop (length (packets_until w n)) (packets_to w k))
-
--- The numbers that arrived, and those that are held, within the step at n before its packet of number k.
-abbrev pub arrived_to : Scenario → ℕ → ℕ → List ℕ
-arrived_to w n k = arrivals_until w n ++ flat_map arrives_of (sent_by w n k)
-
-abbrev pub held_to : Scenario → ℕ → ℕ → List ℕ
-held_to w n k = held w n ++ map (λ (q : ℕ × Packet). q.0) (filter (λ (q : ℕ × Packet). is_late q.1.fate) (sent_by w n k))

@@ -41,9 +41,9 @@ hops_left m = m.hops - m.hop + 1
 abbrev pub carries : List Carry → ℕ → Bool
 carries cs n = list_any (λ (c : Carry). c.packet == n) cs
 
--- A picker is asked where the switch has a frozen sketch and the packet carries nothing.
-abbrev pub is_ask : Scenario → List Carry → Meeting → Bool
-is_ask w cs m = nat_lt 0 (ended_before w m) && not (carries cs m.number)
+-- A packet is offered a column where the switch has a frozen sketch and the packet carries nothing.
+abbrev pub is_offered : Scenario → List Carry → Meeting → Bool
+is_offered w cs m = nat_lt 0 (ended_before w m) && not (carries cs m.number)
 
 -- Whether a carried column is of the sketch that the switch at position s froze with its e-th end.
 abbrev pub is_out : (s e : ℕ) → Carry → Bool
@@ -84,9 +84,9 @@ pub record Adds (n : ℕ) (old new : List Carry) : Type 0 where
   pub is : new ≡ old ++ more
   pub late : All (λ (c : Carry). n ≤ c.packet) more
 
--- By turns: at an ask whose number the hops left divide, the indexes one after the other.
-abbrev pub turns_answer : (asks hops : ℕ) → Offer → Option ℕ
-turns_answer asks hops offer = if asks % hops == 0 then Some (offer.put % offer.width) else None
+-- By turns: at an offer whose number the hops left divide, the indexes one after the other.
+abbrev pub turns_answer : (offers hops : ℕ) → Offer → Option ℕ
+turns_answer offers hops offer = if offers % hops == 0 then Some (offer.put % offer.width) else None
 
 -- The seed of a switch, 32 bytes: the number N, the switch's name, and zeros.
 abbrev pub chance_seed : (n name : ℕ) → List ℕ
@@ -99,9 +99,9 @@ chance_word g = word_at 4 g.key g.stream g.word_pos
 abbrev pub words_on : ℕ → ChaCha → ChaCha
 words_on k g = record g { word_pos = (g.word_pos + k) % 2 ^ 68 }
 
--- The stream of a switch when it has been asked that often: three words an ask.
-abbrev pub chance_stream : (n name asks : ℕ) → ChaCha
-chance_stream n name asks = words_on (3 * asks) (of_seed (chance_seed n name))
+-- The stream of a switch when it has been offered that often: three words an offer.
+abbrev pub chance_stream : (n name offers : ℕ) → ChaCha
+chance_stream n name offers = words_on (3 * offers) (of_seed (chance_seed n name))
 
 -- Of two candidates the one that is put out less often, and the first where they are level.
 abbrev pub candidate : Offer → (y z : ℕ) → ℕ
@@ -115,25 +115,29 @@ chance_answer hops offer x y z = if x % hops == 0 then Some (candidate offer y z
 abbrev pub stream_answer : (hops : ℕ) → Offer → ChaCha → Option ℕ
 stream_answer hops offer g = chance_answer hops offer (chance_word g) (chance_word (words_on 1 g)) (chance_word (words_on 1 (words_on 1 g)))
 
--- The answer of the switch of that name at its ask of that number, from 0, with that many hops left.
-abbrev pub chosen : Pick → (name asks hops : ℕ) → Offer → Option ℕ
-chosen Turns name asks hops offer = turns_answer asks hops offer
-chosen (Chance n) name asks hops offer = stream_answer hops offer (chance_stream n name asks)
+-- The answer of the switch of that name at its offer of that number, from 0, with that many hops left.
+abbrev pub chosen : Pick → (name offers hops : ℕ) → Offer → Option ℕ
+chosen Turns name offers hops offer = turns_answer offers hops offer
+chosen (Chance n) name offers hops offer = stream_answer hops offer (chance_stream n name offers)
 
--- The switches that were asked so far, by position, and what is carried so far.
+-- The switches that were offered so far, by position, and what is carried so far.
 pub record Picking : Type 0 where
-  pub asked : List ℕ
+  pub offered : List ℕ
   pub carried : List Carry
 
 abbrev pub chosen_at : Scenario → Picking → Meeting → Option ℕ
-chosen_at w now m = chosen w.pick (slice_index w.switches m.switch_at) (count_by (λ s. s == m.switch_at) now.asked) (hops_left m) (offer_at w now.carried m)
+chosen_at w now m = chosen w.pick (slice_index w.switches m.switch_at) (count_by (λ s. s == m.switch_at) now.offered) (hops_left m) (offer_at w now.carried m)
 
 abbrev pub pick_at : Scenario → Picking → Meeting → Picking
 pick_at w now m =
-    if is_ask w now.carried m
-    then record { asked = now.asked ++ m.switch_at ∷ []; carried = with_choice w m now.carried (chosen_at w now m) }
+    if is_offered w now.carried m
+    then record { offered = now.offered ++ m.switch_at ∷ []; carried = with_choice w m now.carried (chosen_at w now m) }
     else now
 
 -- The picked list: what the scenario's own pickers let the packets carry, by packet and then by hop.
 abbrev pub picked : Scenario → List Carry
-picked w = (fold (pick_at w) (record { asked = []; carried = [] }) (meetings w)).carried
+picked w = (fold (pick_at w) (record { offered = []; carried = [] }) (meetings w)).carried
+
+-- The picked list is allowed, whatever the scenario's pickers are.
+abbrev pub LawOfThePickedList : Type 0
+LawOfThePickedList = (w : Scenario) → 0 < w.shape.width → IsAllowed w (picked w)

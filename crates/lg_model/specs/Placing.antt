@@ -6,6 +6,7 @@ use Rattle.flow_key.specs.declared.key.FlowKey.{FlowKey}
 use Rattle.flow_key.specs.KeyText.{key_bytes}
 use Rattle.lg_model.specs.declared.scenario.Hash.{Hash}
 use Rattle.lg_model.specs.declared.scenario.Hash.TheVariants.{Ports, Seed}
+use Rattle.lg_model.specs.declared.limits.TheConstants.{MOST_ROWS, MOST_WIDTH}
 
 -- Whether two keys are one: their addresses, protocols and ports are the same.
 abbrev pub same_key : FlowKey → FlowKey → Bool
@@ -20,9 +21,9 @@ pub record Shape : Type 0 where
 -- The ranges of a shape: 1 to 8 rows, and 1 to 4096 buckets a row.
 pub record IsShape (rows width : ℕ) : Type 0 where
   pub some_rows : 1 ≤ rows
-  pub few_rows : rows ≤ 8
+  pub few_rows : rows ≤ MOST_ROWS
   pub some_width : 1 ≤ width
-  pub few_width : width ≤ 4096
+  pub few_width : width ≤ MOST_WIDTH
 
 -- The seeded hash after one byte of the key more.
 abbrev pub mixed : ℕ → ℕ → ℕ

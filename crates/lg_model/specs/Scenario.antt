@@ -9,6 +9,7 @@ use Rattle.lg_model.specs.declared.scenario.Fate.{Fate}
 use Rattle.lg_model.specs.declared.scenario.Fate.TheVariants as fates
 use Rattle.lg_model.specs.declared.scenario.Ask.{Ask}
 use Rattle.lg_model.specs.declared.scenario.Pick.{Pick}
+use Rattle.lg_model.specs.declared.limits.TheConstants.{MOST_HOSTS, MOST_SWITCHES, MOST_HOPS, MOST_PACKETS, MOST_ENDS}
 use Rattle.lg_model.specs.Placing.{Shape, IsShape}
 
 -- Steps name flows and switches by their positions in these lists, flows name hosts and switches so. An ask names its
@@ -64,7 +65,7 @@ pub record IsFlow (hosts switches : ℕ) (f : Flow) : Type 0 where
   pub host : f.host_at < hosts
   pub path : All (λ s. s < switches) f.path
   pub some_hops : 1 ≤ length f.path
-  pub few_hops : length f.path ≤ 16
+  pub few_hops : length f.path ≤ MOST_HOPS
 
 -- A step speaks of what is there: its packets have a delay for each hop and reach no more hops than there are.
 abbrev pub IsStep : (switches : ℕ) → List Flow → Step → Type 0
@@ -78,14 +79,13 @@ IsStep switches flows steps.Release = Unit {0}
 abbrev pub IsAsk : List Flow → Ask → Type 0
 IsAsk flows q = q.flow_at < length flows
 
--- The parts of a scenario fit each other, and none passes its limit: 64 hosts and switches, 1,000,000 packets, 65,535
--- ends of each switch.
+-- The parts of a scenario fit each other, and none passes its limit.
 pub record IsScenario (w : Scenario) : Type 0 where
   pub shape : IsShape w.shape.rows w.shape.width
-  pub few_hosts : length w.hosts ≤ 64
-  pub few_switches : length w.switches ≤ 64
+  pub few_hosts : length w.hosts ≤ MOST_HOSTS
+  pub few_switches : length w.switches ≤ MOST_SWITCHES
   pub flows : All (IsFlow (length w.hosts) (length w.switches)) w.flows
   pub steps : All (IsStep (length w.switches) w.flows) w.steps
   pub asks : All (IsAsk w.flows) w.asks
-  pub few_packets : packet_count w.steps ≤ 1000000
-  pub few_ends : (s : ℕ) → s < length w.switches → count_by (is_end_of s) w.steps ≤ 65535
+  pub few_packets : packet_count w.steps ≤ MOST_PACKETS
+  pub few_ends : (s : ℕ) → s < length w.switches → count_by (is_end_of s) w.steps ≤ MOST_ENDS

@@ -2,7 +2,9 @@
 use Rattle.std.specs.Prelude.{◌≡◌, ◌<◌, length, ℕ, ◌+◌, ◌-◌, ◌^◌, List, [], map, take, replicate, slice_index, slice_index_or, slice_set, fold, min, max}
 use Rattle.std.specs.List.{enumerate_from}
 use Rattle.lg_model.specs.declared.column.Bucket.{Bucket}
+use Rattle.lg_model.specs.declared.limits.TheConstants.{LAST_BYTES, LAST_DELAY}
 use Rattle.lg_model.specs.Placing.{Shape, places_of}
+use Rattle.lg_model.specs.Columns.{Cells}
 use Rattle.lg_model.specs.Scenario.{Scenario}
 use Rattle.lg_model.specs.Trace.{Observation, seen}
 
@@ -15,13 +17,6 @@ zero_bucket = record { bytes = 0; delay = 0 }
 
 abbrev pub zero_table : Shape → Table
 zero_table shape = replicate shape.rows (replicate shape.width zero_bucket)
-
--- The last value of a counter of bytes, and of one of delay.
-abbrev pub MAX_BYTES : ℕ
-MAX_BYTES = 2 ^ 32 - 1
-
-abbrev pub MAX_DELAY : ℕ
-MAX_DELAY = 2 ^ 16 - 1
 
 -- The bucket of a row at an index.
 abbrev pub bucket_in : List Bucket → ℕ → Bucket
@@ -50,12 +45,12 @@ sums_at at table = map (sum_in at) (enumerate_from 0 table)
 
 -- The least of the old sums in the rows up to row i.
 abbrev pub least_to : (ℕ → ℕ) → Table → ℕ → ℕ
-least_to at table i = fold min MAX_BYTES (take (i + 1) (sums_at at table))
+least_to at table i = fold min LAST_BYTES (take (i + 1) (sums_at at table))
 
 -- A bucket after a packet: its sum is raised to the least old sum up to its row and the packet's size, its maximum to
 -- the packet's delay, both no further than the counter's last value.
 abbrev pub raised : Bucket → (least size delay : ℕ) → Bucket
-raised b least size delay = record { bytes = max b.bytes (min MAX_BYTES (size + least)); delay = max b.delay (min delay MAX_DELAY) }
+raised b least size delay = record { bytes = max b.bytes (min LAST_BYTES (size + least)); delay = max b.delay (min delay LAST_DELAY) }
 
 -- A row after a packet: the bucket at the flow's place is raised, and no other.
 abbrev pub raised_row : (ℕ → ℕ) → Table → (size delay : ℕ) → ℕ × List Bucket → List Bucket
@@ -76,6 +71,6 @@ table_of shape xs = fold (raise_by shape) (zero_table shape) xs
 abbrev pub frozen : Scenario → ℕ → ℕ → Table
 frozen w s e = table_of w.shape (seen w s e)
 
--- Its column at index j.
-abbrev pub column : Scenario → ℕ → ℕ → ℕ → List Bucket
-column w s e j = column_at (frozen w s e) j
+-- Its counters at index j.
+abbrev pub frozen_cells : Scenario → ℕ → ℕ → ℕ → Cells
+frozen_cells w s e j = record { buckets = column_at (frozen w s e) j }

@@ -23,8 +23,9 @@ mod shape;
 pub use answer::{Answer, Value};
 pub use column::{Bucket, Dims, Key};
 pub use laws::{
-    answers_are_true, counters_are_bounds, counters_stay_low, frozen_is_settled, worked_scenarios,
+    answers_are_true, arrivals_are_few, counters_are_bounds, counters_stay_low, frozen_is_settled,
+    picked_lists_are_allowed, worked_scenarios,
 };
 pub use lists::{Delays, Letters, Path};
-pub use shape::Shape;
 pub use scenario::{Ask, Fate, Flow, Hash, HostLine, Letter, Pick, Step};
+pub use shape::Shape;

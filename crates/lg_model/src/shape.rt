@@ -2,6 +2,7 @@
 ghost use Rattle.std.specs.Prelude.{◌≡◌, MatchOption};
 ghost use Rattle.lg_model.specs.Placing.{IsShape};
 
+use crate::limits::{MOST_ROWS, MOST_WIDTH};
 use crate::scenario::Hash;
 use std::marker::Model;
 
@@ -31,7 +32,7 @@ impl Shape {
     pub fn new(rows: u8, width: u16, hash: Hash) -> Option<Shape>
         ensures { MatchOption result (IsShape rows width → ⊥) (λ s. IsShape rows width × (s ≡ record { rows = rows; width = width; hash = hash })) }
     {
-        if !(1..=8).contains(&rows) || !(1..=4096).contains(&width) {
+        if !(1..=MOST_ROWS).contains(&rows) || !(1..=MOST_WIDTH).contains(&width) {
             return None;
         }
         Some(Shape { rows, width, hash })

@@ -1,4 +1,4 @@
-pub mod Asks
+pub mod Offers
 pub mod Settling
 pub mod Walking
 pub mod Onward

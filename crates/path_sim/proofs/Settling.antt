@@ -8,30 +8,33 @@ use Rattle.lg_model.specs.declared.scenario.Fate.TheVariants.{Straight, Lost, Tw
 use Rattle.lg_model.specs.Scenario.{Scenario}
 use Rattle.lg_model.specs.Matching.{MatchedOption}
 use Rattle.lg_model.specs.Carrying as model
-use Rattle.lg_model.specs.Arriving.{Column, packet_at, arrives, is_late, cargo, brings, deliveries, AreDelivered}
+use Rattle.lg_model.specs.Arriving.{packet_at, arrives, is_late, cargo, brings, deliveries}
+use Rattle.lg_model.specs.Columns.{Column}
+use Rattle.lg_model.specs.Midway.{AreDelivered}
 use Rattle.lg_model.proofs.Arrivals.{deliver_one, deliveries_append}
 use Rattle.lg_model.proofs.Pairing.{matched_push, Parted, matched_pop, matched_none}
 use Rattle.sketchlet_wire.specs.declared.packed.Packed.{Packed}
 use Rattle.path_sim.specs.declared.inbox.Held.{Held}
-use Rattle.path_sim.specs.Parts.{IsOf, IsCargo}
+use Rattle.path_sim.specs.Parts.{IsCargo}
+use Rattle.sketchlet_wire.specs.Packing.{IsPacked}
 use Rattle.path_sim.specs.Holding.{IsHeld, AreHeld, IsInside}
 
 -- one column comes to an inbox
 pub delivered : (w : Scenario) (ds : List (ℕ × Column)) (hosts : List (List Packed)) (a : ℕ) (c : Column) (d row : List Packed) (p : Packed) → a < length hosts →
-    row ≡ slice_index_or hosts a d ++ p ∷ [] → IsOf w p c → AreDelivered (IsOf w) ds hosts → AreDelivered (IsOf w) (ds ++ (a, c) ∷ []) (slice_set hosts a row)
+    row ≡ slice_index_or hosts a d ++ p ∷ [] → IsPacked p c → AreDelivered IsPacked ds hosts → AreDelivered IsPacked (ds ++ (a, c) ∷ []) (slice_set hosts a row)
 delivered w ds hosts a c d row p inside is of all =
-    subst (λ (xs : List Packed). AreDelivered (IsOf w) (ds ++ (a, c) ∷ []) (slice_set hosts a xs)) (sym is)
-    (deliver_one (IsOf w) ds hosts a c (slice_index_or hosts a d) p inside (get_or_default hosts a d [] inside) of all)
+    subst (λ (xs : List Packed). AreDelivered IsPacked (ds ++ (a, c) ∷ []) (slice_set hosts a xs)) (sym is)
+    (deliver_one IsPacked ds hosts a c (slice_index_or hosts a d) p inside (get_or_default hosts a d [] inside) of all)
 
 -- what a packet carries, as a delivery
 pub record Brings (w : Scenario) (cs : List model.Carry) (n a : ℕ) (p : Packed) : Type 0 where
   pub column : Column
   pub brought : brings w cs n ≡ Some (a, column)
-  pub of : IsOf w p column
+  pub of : IsPacked p column
 
 pub brings_some : (w : Scenario) (cs : List model.Carry) (n a : ℕ) (p : Packed) → (packet_at w n).flow.host_at ≡ a → IsCargo w cs n (Some p) → Brings w cs n a p
 brings_some w cs n a p at h =
-    (elim (cargo w cs n) as (λ (o : Option Column). cargo w cs n ≡ o → MatchedOption (IsOf w) (Some p) o → Brings w cs n a p) [
+    (elim (cargo w cs n) as (λ (o : Option Column). cargo w cs n ≡ o → MatchedOption IsPacked (Some p) o → Brings w cs n a p) [
       | None ↦ λ q bad. absurd bad
       | Some c ↦ λ q of. record {
         column = c;
@@ -42,7 +45,7 @@ brings_some w cs n a p at h =
 
 pub brings_none : (w : Scenario) (cs : List model.Carry) (n : ℕ) → IsCargo w cs n None → brings w cs n ≡ None
 brings_none w cs n h =
-    (elim (cargo w cs n) as (λ (o : Option Column). cargo w cs n ≡ o → MatchedOption (IsOf w) None o → brings w cs n ≡ None) [
+    (elim (cargo w cs n) as (λ (o : Option Column). cargo w cs n ≡ o → MatchedOption IsPacked None o → brings w cs n ≡ None) [
       | None ↦ λ q _. ap (option_map (λ (x : Column). ((packet_at w n).flow.host_at, x))) q
       | Some c ↦ λ q bad. absurd bad
     ]) refl h
@@ -68,22 +71,22 @@ nothing_held w cs ks n Late none = one_none w cs ks n none
 
 -- a packet that carries a column
 pub one_arrives : (w : Scenario) (cs : List model.Carry) (ks : List ℕ) (n a : ℕ) (p : Packed) (hosts hosts' : List (List Packed)) → (packet_at w n).flow.host_at ≡ a → IsCargo w cs n (Some p) →
-    ((c : Column) (ds : List (ℕ × Column)) → IsOf w p c → AreDelivered (IsOf w) ds hosts → AreDelivered (IsOf w) (ds ++ (a, c) ∷ []) hosts') →
-    AreDelivered (IsOf w) (deliveries w cs ks) hosts → AreDelivered (IsOf w) (deliveries w cs (ks ++ n ∷ [])) hosts'
+    ((c : Column) (ds : List (ℕ × Column)) → IsPacked p c → AreDelivered IsPacked ds hosts → AreDelivered IsPacked (ds ++ (a, c) ∷ []) hosts') →
+    AreDelivered IsPacked (deliveries w cs ks) hosts → AreDelivered IsPacked (deliveries w cs (ks ++ n ∷ [])) hosts'
 one_arrives w cs ks n a p hosts hosts' at h step all =
     let b : Brings w cs n a p = brings_some w cs n a p at h in
-    subst (λ (ds : List (ℕ × Column)). AreDelivered (IsOf w) ds hosts') (sym (one_some w cs ks n (a, b.column) b.brought)) (step b.column (deliveries w cs ks) b.of all)
+    subst (λ (ds : List (ℕ × Column)). AreDelivered IsPacked ds hosts') (sym (one_some w cs ks n (a, b.column) b.brought)) (step b.column (deliveries w cs ks) b.of all)
 
 pub two_arrive : (w : Scenario) (cs : List model.Carry) (ks : List ℕ) (n a : ℕ) (p : Packed) (hosts hosts' hosts'' : List (List Packed)) → (packet_at w n).flow.host_at ≡ a → IsCargo w cs n (Some p) →
-    ((c : Column) (ds : List (ℕ × Column)) → IsOf w p c → AreDelivered (IsOf w) ds hosts → AreDelivered (IsOf w) (ds ++ (a, c) ∷ []) hosts') →
-    ((c : Column) (ds : List (ℕ × Column)) → IsOf w p c → AreDelivered (IsOf w) ds hosts' → AreDelivered (IsOf w) (ds ++ (a, c) ∷ []) hosts'') →
-    AreDelivered (IsOf w) (deliveries w cs ks) hosts → AreDelivered (IsOf w) (deliveries w cs (ks ++ n ∷ n ∷ [])) hosts''
+    ((c : Column) (ds : List (ℕ × Column)) → IsPacked p c → AreDelivered IsPacked ds hosts → AreDelivered IsPacked (ds ++ (a, c) ∷ []) hosts') →
+    ((c : Column) (ds : List (ℕ × Column)) → IsPacked p c → AreDelivered IsPacked ds hosts' → AreDelivered IsPacked (ds ++ (a, c) ∷ []) hosts'') →
+    AreDelivered IsPacked (deliveries w cs ks) hosts → AreDelivered IsPacked (deliveries w cs (ks ++ n ∷ n ∷ [])) hosts''
 two_arrive w cs ks n a p hosts hosts' hosts'' at h first second all =
-    subst (λ (js : List ℕ). AreDelivered (IsOf w) (deliveries w cs js) hosts'') (append_assoc ks (n ∷ []) (n ∷ []))
+    subst (λ (js : List ℕ). AreDelivered IsPacked (deliveries w cs js) hosts'') (append_assoc ks (n ∷ []) (n ∷ []))
     (one_arrives w cs (ks ++ n ∷ []) n a p hosts' hosts'' at h second (one_arrives w cs ks n a p hosts hosts' at h first all))
 
-pub same_arrive : (w : Scenario) (cs : List model.Carry) (ks : List ℕ) (hosts : List (List Packed)) → AreDelivered (IsOf w) (deliveries w cs ks) hosts → AreDelivered (IsOf w) (deliveries w cs (ks ++ [])) hosts
-same_arrive w cs ks hosts all = subst (λ (js : List ℕ). AreDelivered (IsOf w) (deliveries w cs js) hosts) (sym (append-nil ks)) all
+pub same_arrive : (w : Scenario) (cs : List model.Carry) (ks : List ℕ) (hosts : List (List Packed)) → AreDelivered IsPacked (deliveries w cs ks) hosts → AreDelivered IsPacked (deliveries w cs (ks ++ [])) hosts
+same_arrive w cs ks hosts all = subst (λ (js : List ℕ). AreDelivered IsPacked (deliveries w cs js) hosts) (sym (append-nil ks)) all
 
 pub same_held : (w : Scenario) (cs : List model.Carry) (ks : List ℕ) (hs : List Held) → AreHeld w (deliveries w cs ks) hs → AreHeld w (deliveries w cs (ks ++ [])) hs
 same_held w cs ks hs all = subst (λ (js : List ℕ). AreHeld w (deliveries w cs js) hs) (sym (append-nil ks)) all
@@ -101,19 +104,19 @@ pub record Released (w : Scenario) (ds hs : List (ℕ × Column)) (held : List H
   pub back : List (ℕ × Column)
   pub all : hs ≡ front ++ back
   pub waits : AreHeld w front held
-  pub came : AreDelivered (IsOf w) (ds ++ reverse back) hosts
+  pub came : AreDelivered IsPacked (ds ++ reverse back) hosts
 
-pub released_start : (w : Scenario) (ds hs : List (ℕ × Column)) (held : List Held) (hosts : List (List Packed)) → AreHeld w hs held → AreDelivered (IsOf w) ds hosts → Released w ds hs held hosts
+pub released_start : (w : Scenario) (ds hs : List (ℕ × Column)) (held : List Held) (hosts : List (List Packed)) → AreHeld w hs held → AreDelivered IsPacked ds hosts → Released w ds hs held hosts
 released_start w ds hs held hosts waits came = record {
   front = hs;
   back = [];
   all = sym (append-nil hs);
   waits = waits;
-  came = subst (λ (xs : List (ℕ × Column)). AreDelivered (IsOf w) xs hosts) (sym (append-nil ds)) came;
+  came = subst (λ (xs : List (ℕ × Column)). AreDelivered IsPacked xs hosts) (sym (append-nil ds)) came;
 }
 
 pub released_one : (w : Scenario) (ds hs : List (ℕ × Column)) (held held' : List Held) (item : Held) (hosts hosts' : List (List Packed)) → held ≡ held' ++ item ∷ [] →
-    ((c : Column) (xs : List (ℕ × Column)) → IsOf w item.packed c → AreDelivered (IsOf w) xs hosts → AreDelivered (IsOf w) (xs ++ (item.host_at, c) ∷ []) hosts') →
+    ((c : Column) (xs : List (ℕ × Column)) → IsPacked item.packed c → AreDelivered IsPacked xs hosts → AreDelivered IsPacked (xs ++ (item.host_at, c) ∷ []) hosts') →
     Released w ds hs held hosts → Released w ds hs held' hosts'
 released_one w ds hs held held' item hosts hosts' popped step r =
     let part : Parted (IsHeld w) held' item r.front = matched_pop (IsHeld w) held' item r.front (subst (AreHeld w r.front) popped r.waits) in
@@ -125,14 +128,14 @@ released_one w ds hs held held' item hosts hosts' popped step r =
       back = d ∷ r.back;
       all = r.all ∙ ap (λ xs. xs ++ r.back) part.is ∙ append_assoc part.front (d ∷ []) r.back;
       waits = part.before;
-      came = subst (λ (xs : List (ℕ × Column)). AreDelivered (IsOf w) xs hosts') (ap (λ (x : ℕ × Column). (ds ++ reverse r.back) ++ x ∷ []) same ∙ order) (step d.1 (ds ++ reverse r.back) part.here.1 r.came);
+      came = subst (λ (xs : List (ℕ × Column)). AreDelivered IsPacked xs hosts') (ap (λ (x : ℕ × Column). (ds ++ reverse r.back) ++ x ∷ []) same ∙ order) (step d.1 (ds ++ reverse r.back) part.here.1 r.came);
     }
 
-pub released_all : (w : Scenario) (ds hs : List (ℕ × Column)) (held : List Held) (hosts : List (List Packed)) → held ≡ [] → Released w ds hs held hosts → AreDelivered (IsOf w) (ds ++ reverse hs) hosts
+pub released_all : (w : Scenario) (ds hs : List (ℕ × Column)) (held : List Held) (hosts : List (List Packed)) → held ≡ [] → Released w ds hs held hosts → AreDelivered IsPacked (ds ++ reverse hs) hosts
 released_all w ds hs held hosts none r =
     let empty : r.front ≡ [] = matched_none (IsHeld w) r.front (subst (AreHeld w r.front) none r.waits) in
     let same : r.back ≡ hs = sym (r.all ∙ ap (λ xs. xs ++ r.back) empty) in
-    subst (λ (xs : List (ℕ × Column)). AreDelivered (IsOf w) (ds ++ reverse xs) hosts) same r.came
+    subst (λ (xs : List (ℕ × Column)). AreDelivered IsPacked (ds ++ reverse xs) hosts) same r.came
 
 pub inside_front : (n m : ℕ) (xs ys : List Held) (x : Held) → ys ≡ xs ++ x ∷ [] → m ≡ n → All (IsInside n) ys → All (IsInside m) xs
 inside_front n m xs ys x popped same all k d h =

@@ -10,14 +10,17 @@ use Rattle.lg_model.specs.declared.scenario.Step.{Step}
 use Rattle.lg_model.specs.declared.scenario.Step.TheVariants as steps
 use Rattle.lg_model.specs.Scenario.{Scenario, IsScenario, IsStep, IsFlow, flow_at, no_flow, is_end_of, ended}
 use Rattle.lg_model.specs.Trace.{Packet, packets, packet_of, packets_of, packets_until, meetings_in}
-use Rattle.lg_model.specs.Twin.{Twin, AreTwins, with_end}
-use Rattle.lg_model.specs.Arriving.{Column, packets_to, packet_at, no_packet, is_release, held, deliveries, arrivals_until, arrived_to, held_to, AreDelivered}
+use Rattle.lg_model.specs.TwinsState.{TwinsState, AreTwins, with_end}
+use Rattle.lg_model.specs.Arriving.{packet_at, no_packet, is_release, held, deliveries, arrivals_until}
+use Rattle.lg_model.specs.Columns.{Column}
+use Rattle.lg_model.specs.Midway.{packets_to, arrived_to, held_to, AreDelivered}
 use Rattle.lg_model.proofs.Tracing.{packets_split, packets_from, packets_more, ended_more, ended_rises, length_packets}
 use Rattle.lg_model.proofs.Twinning.{twins_stay, twins_end, twins_end_all}
 use Rattle.lg_model.proofs.Arrivals.{arrived_start, arrived_end, held_start, held_end, arrivals_released, held_released, deliveries_append, deliveries_reverse}
 use Rattle.sketchlet_wire.specs.declared.packed.Packed.{Packed}
 use Rattle.path_sim.specs.declared.traffic.Traffic.{Traffic}
-use Rattle.path_sim.specs.Parts.{carried_are, step_in, IsOf}
+use Rattle.path_sim.specs.Parts.{carried_are, step_in}
+use Rattle.sketchlet_wire.specs.Packing.{IsPacked}
 use Rattle.path_sim.specs.Holding.{AreHeld, IsInside}
 use Rattle.path_sim.specs.Moving.{IsTraffic}
 
@@ -100,7 +103,7 @@ next_step w n k old new h number no_release is carried inboxes held_is twins =
 -- a release
 pub released_step : (w : Scenario) (n k : ℕ) (old new : Traffic) (inboxes' : List (List Packed)) → n < length w.steps → k ≡ length (packets_until w n) → step_in w n ≡ steps.Release → IsTraffic w n k old →
     new.carried.items ≡ old.carried.items → new.twins.items ≡ old.twins.items → new.inboxes.items ≡ inboxes' → length inboxes' ≡ length old.inboxes.items → new.held.items ≡ [] →
-    ((v : Scenario) (ds hs : List (ℕ × Column)) → AreHeld v hs old.held.items → AreDelivered (IsOf v) ds old.inboxes.items → AreDelivered (IsOf v) (ds ++ reverse hs) inboxes') → IsTraffic w (n + 1) k new
+    ((v : Scenario) (ds hs : List (ℕ × Column)) → AreHeld v hs old.held.items → AreDelivered IsPacked ds old.inboxes.items → AreDelivered IsPacked (ds ++ reverse hs) inboxes') → IsTraffic w (n + 1) k new
 released_step w n k old new inboxes' h number step is carried twins inboxes hosts empty came =
     let cs = carried_are old.carried.items in
     let releases : is_release (step_in w n) ≡ true = ap is_release step in
@@ -111,7 +114,7 @@ released_step w n k old new inboxes' h number step is carried twins inboxes host
     let waits : held_to w n k ≡ held w n = held_start w n k (omega arith) number in
     let after : arrived_to w (n + 1) k ≡ arrivals_until w n ++ reverse (held w n) = arrived_start w (n + 1) k (omega arith) number' ∙ arrivals_released w n h step in
     let none : held_to w (n + 1) k ≡ [] = held_start w (n + 1) k (omega arith) number' ∙ held_released w n h releases in
-    let all : AreDelivered (IsOf w) (deliveries w cs (arrivals_until w n) ++ reverse (deliveries w cs (held w n))) inboxes' =
+    let all : AreDelivered IsPacked (deliveries w cs (arrivals_until w n) ++ reverse (deliveries w cs (held w n))) inboxes' =
     came w (deliveries w cs (arrivals_until w n)) (deliveries w cs (held w n)) (rw waits at is.held) (rw before at is.arrived) in
     let joined : deliveries w cs (arrived_to w (n + 1) k) ≡ deliveries w cs (arrivals_until w n) ++ reverse (deliveries w cs (held w n)) =
     ap (deliveries w cs) after ∙ deliveries_append w cs (arrivals_until w n) (reverse (held w n)) ∙ ap (λ ds. deliveries w cs (arrivals_until w n) ++ ds) (deliveries_reverse w cs (held w n)) in
@@ -130,15 +133,15 @@ released_step w n k old new inboxes' h number step is carried twins inboxes host
 pub step_known : (w : Scenario) (n : ℕ) (xs : List Step) (x : Step) → xs ≡ w.steps → n < length w.steps → x ≡ slice_index_or xs n x → step_in w n ≡ x
 step_known w n xs x same h is = get_or_default w.steps n steps.Release x h ∙ ap (λ (ys : List Step). slice_index_or ys n x) (sym same) ∙ sym is
 
-pub epoch_fits : (w : Scenario) (n k s : ℕ) (t : Traffic) (ts : List Twin) (d : Twin) → IsScenario w → n < length w.steps → IsTraffic w n k t → ts ≡ t.twins.items → s < length ts → is_end_of s (step_in w n) ≡ true → (slice_index_or ts s d).epoch < 65535
+pub epoch_fits : (w : Scenario) (n k s : ℕ) (t : Traffic) (ts : List TwinsState) (d : TwinsState) → IsScenario w → n < length w.steps → IsTraffic w n k t → ts ≡ t.twins.items → s < length ts → is_end_of s (step_in w n) ≡ true → (slice_index_or ts s d).epoch < 65535
 epoch_fits w n k s t ts d is h traffic same inside ends =
-    let low : s < length t.twins.items = subst (λ (xs : List Twin). s < length xs) same inside in
-    let epoch : (slice_index_or ts s d).epoch ≡ ended w s n = ap (λ (xs : List Twin). (slice_index_or xs s d).epoch) same ∙ (traffic.twins.each s d low).epoch in
+    let low : s < length t.twins.items = subst (λ (xs : List TwinsState). s < length xs) same inside in
+    let epoch : (slice_index_or ts s d).epoch ≡ ended w s n = ap (λ (xs : List TwinsState). (slice_index_or xs s d).epoch) same ∙ (traffic.twins.each s d low).epoch in
     let few : ended w s n < 65535 = ended_fits w n s is h (omega (arith, traffic.twins.count)) ends in
     omega arith
 
 -- an epoch of one switch ends
-pub ended_one : (w : Scenario) (n k s : ℕ) (old new : Traffic) (ts ts' : List Twin) (d : Twin) → n < length w.steps → k ≡ length (packets_until w n) → step_in w n ≡ steps.End s → s < length ts → IsTraffic w n k old →
+pub ended_one : (w : Scenario) (n k s : ℕ) (old new : Traffic) (ts ts' : List TwinsState) (d : TwinsState) → n < length w.steps → k ≡ length (packets_until w n) → step_in w n ≡ steps.End s → s < length ts → IsTraffic w n k old →
     ts ≡ old.twins.items → ts' ≡ slice_set ts s (with_end (slice_index_or ts s d)) → new.twins.items ≡ ts' → new.carried.items ≡ old.carried.items → new.inboxes.items ≡ old.inboxes.items → new.held.items ≡ old.held.items →
     IsTraffic w (n + 1) k new
 ended_one w n k s old new ts ts' d h number step inside is twins set twins_new carried inboxes held_is =
@@ -146,13 +149,13 @@ ended_one w n k s old new ts ts' d h number step inside is twins set twins_new c
     let number' : k ≡ length (packets_until w (n + 1)) = number ∙ sym (ap length quiet) in
     let cs = carried_are old.carried.items in
     let before : AreTwins w n (meetings_in (packets_until w n)) cs ts =
-    subst (λ (xs : List Twin). AreTwins w n (meetings_in (packets_until w n)) cs xs) (sym twins) (subst (λ (ps : List Packet). AreTwins w n (meetings_in ps) cs old.twins.items) (prefix_at w n k (omega arith) number) is.twins) in
+    subst (λ (xs : List TwinsState). AreTwins w n (meetings_in (packets_until w n)) cs xs) (sym twins) (subst (λ (ps : List Packet). AreTwins w n (meetings_in ps) cs old.twins.items) (prefix_at w n k (omega arith) number) is.twins) in
     let after : AreTwins w (n + 1) (meetings_in (packets_until w (n + 1))) cs (slice_set ts s (with_end (slice_index_or ts s d))) = twins_end w n s cs ts d h step inside before in
     next_step w n k old new h number' (rw step refl) is carried inboxes held_is
     (rw (carried, twins_new, set, prefix_at w (n + 1) k (omega arith) number') after)
 
 -- and one of every switch
-pub ended_every : (w : Scenario) (n k : ℕ) (old new : Traffic) (ts ts' : List Twin) → n < length w.steps → k ≡ length (packets_until w n) → step_in w n ≡ steps.EndAll → IsTraffic w n k old →
+pub ended_every : (w : Scenario) (n k : ℕ) (old new : Traffic) (ts ts' : List TwinsState) → n < length w.steps → k ≡ length (packets_until w n) → step_in w n ≡ steps.EndAll → IsTraffic w n k old →
     ts ≡ old.twins.items → ts' ≡ map with_end ts → new.twins.items ≡ ts' → new.carried.items ≡ old.carried.items → new.inboxes.items ≡ old.inboxes.items → new.held.items ≡ old.held.items →
     IsTraffic w (n + 1) k new
 ended_every w n k old new ts ts' h number step is twins set twins_new carried inboxes held_is =
@@ -160,7 +163,7 @@ ended_every w n k old new ts ts' h number step is twins set twins_new carried in
     let number' : k ≡ length (packets_until w (n + 1)) = number ∙ sym (ap length quiet) in
     let cs = carried_are old.carried.items in
     let before : AreTwins w n (meetings_in (packets_until w n)) cs ts =
-    subst (λ (xs : List Twin). AreTwins w n (meetings_in (packets_until w n)) cs xs) (sym twins) (subst (λ (ps : List Packet). AreTwins w n (meetings_in ps) cs old.twins.items) (prefix_at w n k (omega arith) number) is.twins) in
+    subst (λ (xs : List TwinsState). AreTwins w n (meetings_in (packets_until w n)) cs xs) (sym twins) (subst (λ (ps : List Packet). AreTwins w n (meetings_in ps) cs old.twins.items) (prefix_at w n k (omega arith) number) is.twins) in
     let after : AreTwins w (n + 1) (meetings_in (packets_until w (n + 1))) cs (map with_end ts) = twins_end_all w n cs ts h step before in
     next_step w n k old new h number' (rw step refl) is carried inboxes held_is
     (rw (carried, twins_new, set, prefix_at w (n + 1) k (omega arith) number') after)

@@ -7,7 +7,8 @@ use Rattle.std.proofs.lemmas.List.FromFn.{length-enumerate_from, get_or-enumerat
 use Rattle.lg_model.specs.Scenario.{Scenario}
 use Rattle.lg_model.specs.Trace.{Packet, Meeting, packets, reach, meeting_of, meetings_of, meetings_in}
 use Rattle.lg_model.proofs.Tracing.{meetings_push}
-use Rattle.lg_model.specs.Arriving.{packets_to, packet_at, no_packet}
+use Rattle.lg_model.specs.Arriving.{packet_at, no_packet}
+use Rattle.lg_model.specs.Midway.{packets_to}
 use Rattle.path_sim.specs.Parts.{meetings_to}
 
 front : (p : Packet) → reach p ≤ length p.flow.path → length (take (reach p) p.flow.path) ≡ reach p

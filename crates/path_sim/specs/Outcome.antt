@@ -1,6 +1,6 @@
 -- What a run of the network leaves.
 use Rattle.std.specs.Prelude.{List}
-use Rattle.lg_model.specs.Twin.{Twin}
+use Rattle.lg_model.specs.TwinsState.{TwinsState}
 use Rattle.sketchlet_wire.specs.declared.packed.Packed.{Packed}
 use Rattle.path_sim.specs.declared.carry.Carry.{Carry}
 
@@ -8,4 +8,4 @@ use Rattle.path_sim.specs.declared.carry.Carry.{Carry}
 pub record Outcome : Type 0 where
   pub inboxes : List (List Packed)
   pub carried : List Carry
-  pub twins : List Twin
+  pub twins : List TwinsState

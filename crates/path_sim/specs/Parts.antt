@@ -1,5 +1,5 @@
 -- What the network handles, as the definitions speak of it.
-use Rattle.std.specs.Prelude.{◌≡◌, ℕ, ◌<◌, List, ◌++◌, map, take, slice_index, slice_index_or, Option, None, Some}
+use Rattle.std.specs.Prelude.{◌≡◌, ℕ, ◌<◌, ◌-◌, List, ◌++◌, map, take, slice_index, slice_index_or, Option, None, Some}
 use Rattle.lg_model.specs.declared.scenario.Flow.{Flow}
 use Rattle.lg_model.specs.declared.scenario.Step.{Step}
 use Rattle.lg_model.specs.declared.scenario.Step.TheVariants as steps
@@ -8,10 +8,13 @@ use Rattle.lg_model.specs.Scenario.{Scenario}
 use Rattle.lg_model.specs.Matching.{MatchedOption}
 use Rattle.lg_model.specs.Trace.{Meeting, meetings_in, meetings_of}
 use Rattle.lg_model.specs.Carrying as model
-use Rattle.lg_model.specs.Arriving.{Column, packets_to, packet_at, cargo}
+use Rattle.lg_model.specs.Arriving.{packet_at, cargo}
+use Rattle.lg_model.specs.Columns.{Column, dims_of}
+use Rattle.lg_model.specs.Sketch.{column_at}
+use Rattle.lg_model.specs.TwinsState.{TwinsState}
+use Rattle.lg_model.specs.Midway.{packets_to}
 use Rattle.sketchlet_wire.specs.declared.packed.Packed.{Packed}
 use Rattle.sketchlet_wire.specs.Packing.{IsPacked}
-use Rattle.sketchlet_wire.specs.Carried.{column_data, dims_of}
 use Rattle.path_sim.specs.declared.meeting.Visit.{Visit}
 use Rattle.path_sim.specs.declared.carry.Carry.{Carry}
 
@@ -24,13 +27,17 @@ carry_is c = record { packet = c.packet; hop = c.hop; switch_at = c.switch_at; e
 abbrev pub carried_are : List Carry → List model.Carry
 carried_are cs = map carry_is cs
 
--- The packed bytes are those of that column, of a sketch of the scenario's shape.
-abbrev pub IsOf : Scenario → Packed → Column → Type 0
-IsOf w p c = IsPacked p (column_data (dims_of w.shape) c)
+-- The column at an index of the sketch that these twins froze last, under the name of their switch.
+abbrev pub frozen_column : TwinsState → (switch index : ℕ) → Column
+frozen_column t switch index = record {
+  key = record { switch = switch; epoch = t.epoch - 1; index = index };
+  dims = dims_of t.shape;
+  cells = record { buckets = column_at t.frozen index };
+}
 
 -- What a packet carries is its cargo.
 abbrev pub IsCargo : Scenario → List model.Carry → ℕ → Option Packed → Type 0
-IsCargo w cs n p = MatchedOption (IsOf w) p (cargo w cs n)
+IsCargo w cs n p = MatchedOption IsPacked p (cargo w cs n)
 
 -- 1 where there is something, else 0.
 abbrev pub some_count : {X : Type 0} → Option X → ℕ

@@ -2,9 +2,8 @@
 ghost use Rattle.std.specs.Prelude.{◌≡◌, ◌<◌, [], length, slice_index_or, All, IfOk};
 ghost use Rattle.lg_model.specs.Trace.{meetings};
 ghost use Rattle.lg_model.specs.Carrying.{IsAllowed};
-ghost use Rattle.lg_model.specs.Asking.{IsPick, asking};
-ghost use Rattle.lg_model.specs.Runs.{Runs};
-ghost use Rattle.lg_model.specs.Twin.{Twin, AreTwins};
+ghost use Rattle.lg_model.specs.Offering.{HaveChosen};
+ghost use Rattle.lg_model.specs.TwinsState.{TwinsState, AreTwins};
 ghost use Rattle.path_sim.specs.Parts.{carried_are, flow_places, IsNamed};
 ghost use Rattle.path_sim.specs.Moving.{IsTraffic, HasEnded};
 ghost use Rattle.path_sim.specs.Arrived.{HaveArrived};
@@ -60,7 +59,7 @@ impl Arrivals {
     /// The twins of the switch at a position of the scenario's list.
     pub fn twins(&self, switch_at: u16) -> &Twins
         requires { switch_at < length self.now.twins }
-        ensures { (d : Twin) → result.now ≡ slice_index_or self.now.twins switch_at d }
+        ensures { (d : TwinsState) → result.now ≡ slice_index_or self.now.twins switch_at d }
     {
         &self.twins[switch_at as usize]
     }
@@ -99,7 +98,7 @@ fn run_steps<P: Picker>(
     requires carried { traffic.old.carried.items ≡ [] }
     requires traffic { IsTraffic scenario.now 0 0 traffic.old }
     ensures traffic { IfOk result (λ _. HasEnded scenario.now traffic.new) }
-    ensures picks { IfOk result (λ _. Runs (IsPick P.picks scenario.now) (meetings scenario.now) (asking pickers.old []) (asking pickers.new (carried_are traffic.new.carried.items))) }
+    ensures picks { IfOk result (λ _. HaveChosen P.picks scenario.now pickers.old pickers.new (carried_are traffic.new.carried.items)) }
 {
     let mut number = 0;
     for n in 0..scenario.steps().len() {
@@ -118,7 +117,7 @@ pub fn run_net<P: Picker>(
 ) -> Result<Arrivals, Memory>
     requires { length pickers.old ≡ length scenario.now.switches }
     // The carry list is the one that the answers of the pickers give, and whatever they answer it is allowed.
-    ensures picks { IfOk result (λ a. Runs (IsPick P.picks scenario.now) (meetings scenario.now) (asking pickers.old []) (asking pickers.new (carried_are a.carried))) }
+    ensures picks { IfOk result (λ a. HaveChosen P.picks scenario.now pickers.old pickers.new (carried_are a.carried)) }
     ensures allowed { IfOk result (λ a. IsAllowed scenario.now (carried_are a.carried)) }
     ensures names { IfOk result (λ a. All (IsNamed scenario.now) a.carried) }
     // Each host has the brought columns, in order of arrival.

@@ -1,11 +1,12 @@
 //! The network of a scenario: packets go their way, switches count them and hand out columns, and columns come to hosts
 //! (docs/ARCHITECTURE.md, The way of a packet).
 //!
-//! | Type | What it is |
+//! | Item | What it is |
 //! |---|---|
+//! | [`run_net`] | runs the network with the pickers that it is given |
+//! | [`run_own`] | runs it with the pickers that the scenario names |
+//! | [`Arrivals`] | what a run leaves: the columns of each host, the carry list, the twins of each switch |
 //! | [`Carry`] | a packet that carries a column |
-//! | `Visit`, `Sent` | a packet at a hop, and the packets of a step |
-//! | `Inbox`, `Held` | what came to a host, and a column on its way |
 #![tactic(auto)]
 
 mod arrivals;

@@ -2,8 +2,11 @@
 ghost use Rattle.std.specs.Prelude.{◌≡◌, ◌<◌, ◌++◌, ◌∷◌, [], ℕ, List, cond, length, reverse, IfOk, All};
 ghost use Rattle.lg_model.specs.Scenario.{Scenario};
 ghost use Rattle.lg_model.specs.Carrying as model;
-ghost use Rattle.lg_model.specs.Arriving.{Column, packet_at, arrives, is_late, deliveries, AreDelivered};
-ghost use Rattle.path_sim.specs.Parts.{IsOf, IsCargo};
+ghost use Rattle.lg_model.specs.Arriving.{packet_at, arrives, is_late, deliveries};
+ghost use Rattle.lg_model.specs.Columns.{Column};
+ghost use Rattle.lg_model.specs.Midway.{AreDelivered};
+ghost use Rattle.path_sim.specs.Parts.{IsCargo};
+ghost use Rattle.sketchlet_wire.specs.Packing.{IsPacked};
 ghost use Rattle.path_sim.specs.Holding.{AreHeld, IsInside};
 
 use crate::inbox::{Held, Inbox};
@@ -15,7 +18,7 @@ use sketchlet_wire::Packed;
 // A packet that carries that column arrives at its host.
 fn arrive(inboxes: &mut [Inbox], host_at: u16, packed: &Packed) -> Result<(), Memory>
     requires inside { host_at < length inboxes.old }
-    ensures arrived { IfOk result (λ _. (w : Scenario) (c : Column) (ds : List (ℕ × Column)) → IsOf w packed.now c → AreDelivered (IsOf w) ds inboxes.old → AreDelivered (IsOf w) (ds ++ (host_at, c) ∷ []) inboxes.new) }
+    ensures arrived { IfOk result (λ _. (w : Scenario) (c : Column) (ds : List (ℕ × Column)) → IsPacked packed.now c → AreDelivered IsPacked ds inboxes.old → AreDelivered IsPacked (ds ++ (host_at, c) ∷ []) inboxes.new) }
 {
     let inbox = &mut inboxes[host_at as usize];
     inbox.push(packed)
@@ -35,7 +38,7 @@ pub fn settle(
     requires inside { host_at < length inboxes.old }
     requires host { (packet_at scenario.now number).flow.host_at ≡ host_at }
     ensures arrived { IfOk result (λ _. (cs : List model.Carry) (ks : List ℕ) → IsCargo scenario.now cs number cargo.now
-        → AreDelivered (IsOf scenario.now) (deliveries scenario.now cs ks) inboxes.old → AreDelivered (IsOf scenario.now) (deliveries scenario.now cs (ks ++ arrives fate number)) inboxes.new) }
+        → AreDelivered IsPacked (deliveries scenario.now cs ks) inboxes.old → AreDelivered IsPacked (deliveries scenario.now cs (ks ++ arrives fate number)) inboxes.new) }
     ensures held { IfOk result (λ _. (cs : List model.Carry) (ks : List ℕ) → IsCargo scenario.now cs number cargo.now
         → AreHeld scenario.now (deliveries scenario.now cs ks) held.old.items → AreHeld scenario.now (deliveries scenario.now cs (ks ++ cond (is_late fate) (number ∷ []) [])) held.new.items) }
     ensures hosts { IfOk result (λ _. All (IsInside (length inboxes.old)) held.old.items → All (IsInside (length inboxes.old)) held.new.items) }
@@ -64,7 +67,7 @@ pub fn settle(
 pub fn release(inboxes: &mut [Inbox], held: &mut Vec<Held>) -> Result<(), Memory>
     requires inside { All (IsInside (length inboxes.old)) held.old.items }
     ensures arrived { IfOk result (λ _. (w : Scenario) (ds hs : List (ℕ × Column)) → AreHeld w hs held.old.items
-        → AreDelivered (IsOf w) ds inboxes.old → AreDelivered (IsOf w) (ds ++ reverse hs) inboxes.new) }
+        → AreDelivered IsPacked ds inboxes.old → AreDelivered IsPacked (ds ++ reverse hs) inboxes.new) }
     ensures empty { IfOk result (λ _. held.new.items ≡ []) }
 {
     while let Some(item) = held.pop() {

@@ -1,11 +1,12 @@
 //! A packet meets a switch.
 ghost use Rattle.std.specs.Prelude.{◌≡◌, ◌<◌, ◌≤◌, ◌+◌, ◌-◌, ◌++◌, ◌∷◌, [], None, false, length, slice_set, slice_index, slice_index_or, IfOk, All};
+ghost use Rattle.lg_model.specs.declared.limits.TheConstants.{MOST_HOPS, MOST_PACKETS};
 ghost use Rattle.lg_model.specs.Placing.{places_of};
 ghost use Rattle.lg_model.specs.Trace.{observation};
 ghost use Rattle.lg_model.specs.Scenario.{ended};
 ghost use Rattle.lg_model.specs.Carrying.{carries};
-ghost use Rattle.lg_model.specs.Asking.{IsPick, asking};
-ghost use Rattle.lg_model.specs.Twin.{Twin, AreTwins, with_seen};
+ghost use Rattle.lg_model.specs.Offering.{IsPick, offering};
+ghost use Rattle.lg_model.specs.TwinsState.{TwinsState, AreTwins, with_seen};
 ghost use Rattle.path_sim.specs.Parts.{meeting_is, carried_are, meetings_to, IsCargo, IsNamed, some_count};
 
 use crate::carry::Carry;
@@ -44,17 +45,17 @@ pub struct Visit {
 // The switch counts the packet at its flow's places.
 fn count(shape: &Shape, twins: &mut [Twins], m: &Visit, places: &Places)
     requires inside { m.now.switch_at < length twins.old }
-    requires shape { (d : Twin) → (slice_index_or twins.old m.now.switch_at d).shape ≡ shape.now }
+    requires shape { (d : TwinsState) → (slice_index_or twins.old m.now.switch_at d).shape ≡ shape.now }
     requires places { places.now ≡ places_of shape.now m.now.key }
-    ensures { (d : Twin) → twins.new ≡ slice_set twins.old m.now.switch_at (with_seen (slice_index_or twins.old m.now.switch_at d) (observation (meeting_is m.now))) }
+    ensures { (d : TwinsState) → twins.new ≡ slice_set twins.old m.now.switch_at (with_seen (slice_index_or twins.old m.now.switch_at d) (observation (meeting_is m.now))) }
 {
     let _wide = shape.width();
     let twin = &mut twins[m.switch_at as usize];
     twin.see(places, m.size, m.delay);
 }
 
-// The picker of the switch is asked. If it gives a column, the packet carries that column from here on.
-fn ask<P: Picker>(
+// The picker of the switch is offered. If it gives a column, the packet carries that column from here on.
+fn offer<P: Picker>(
     scenario: &Scenario,
     m: &Visit,
     cargo: &mut Option<Packed>,
@@ -67,8 +68,8 @@ fn ask<P: Picker>(
     requires name { m.now.switch ≡ slice_index scenario.now.switches m.now.switch_at }
     requires first_hop { 1 ≤ m.now.hop }
     requires last_hop { m.now.hop ≤ m.now.hops }
-    requires few_hops { m.now.hops ≤ 16 }
-    requires few { m.now.number < 1000000 }
+    requires few_hops { m.now.hops ≤ MOST_HOPS }
+    requires few { m.now.number < MOST_PACKETS }
     requires epoch { 0 < ended scenario.now m.now.switch_at m.now.step_at }
     requires empty { cargo.old ≡ None }
     requires none { carries (carried_are carried.old.items) m.now.number ≡ false }
@@ -77,7 +78,7 @@ fn ask<P: Picker>(
     ensures cargo { IfOk result (λ _. IsCargo scenario.now (carried_are carried.new.items) m.now.number cargo.new) }
     ensures few_carried { IfOk result (λ _. length carried.new.items ≤ m.now.number + some_count cargo.new) }
     ensures names { IfOk result (λ _. All (IsNamed scenario.now) carried.old.items → All (IsNamed scenario.now) carried.new.items) }
-    ensures picks { IfOk result (λ _. IsPick P.picks scenario.now (meeting_is m.now) (asking pickers.old (carried_are carried.old.items)) (asking pickers.new (carried_are carried.new.items))) }
+    ensures picks { IfOk result (λ _. IsPick P.picks scenario.now (meeting_is m.now) (offering pickers.old (carried_are carried.old.items)) (offering pickers.new (carried_are carried.new.items))) }
     ensures twins { IfOk result (λ _. AreTwins scenario.now m.now.step_at (meetings_to scenario.now m.now.number m.now.hop) (carried_are carried.new.items) twins.new) }
 {
     let at = m.switch_at as usize;
@@ -102,7 +103,7 @@ fn ask<P: Picker>(
     }
 }
 
-/// The switch counts the packet. If the packet carries nothing and the switch has a frozen sketch, its picker is asked
+/// The switch counts the packet. If the packet carries nothing and the switch has a frozen sketch, its picker is offered
 /// then. Memory where there is none for the entry of a carried column.
 pub fn meet<P: Picker>(
     scenario: &Scenario,
@@ -118,8 +119,8 @@ pub fn meet<P: Picker>(
     requires name { m.now.switch ≡ slice_index scenario.now.switches m.now.switch_at }
     requires first_hop { 1 ≤ m.now.hop }
     requires last_hop { m.now.hop ≤ m.now.hops }
-    requires few_hops { m.now.hops ≤ 16 }
-    requires few { m.now.number < 1000000 }
+    requires few_hops { m.now.hops ≤ MOST_HOPS }
+    requires few { m.now.number < MOST_PACKETS }
     requires places { places.now ≡ places_of scenario.now.shape m.now.key }
     requires cargo { IsCargo scenario.now (carried_are carried.old.items) m.now.number cargo.old }
     requires few_carried { length carried.old.items ≤ m.now.number + some_count cargo.old }
@@ -128,7 +129,7 @@ pub fn meet<P: Picker>(
     ensures cargo { IfOk result (λ _. IsCargo scenario.now (carried_are carried.new.items) m.now.number cargo.new) }
     ensures few_carried { IfOk result (λ _. length carried.new.items ≤ m.now.number + some_count cargo.new) }
     ensures names { IfOk result (λ _. All (IsNamed scenario.now) carried.old.items → All (IsNamed scenario.now) carried.new.items) }
-    ensures picks { IfOk result (λ _. IsPick P.picks scenario.now (meeting_is m.now) (asking pickers.old (carried_are carried.old.items)) (asking pickers.new (carried_are carried.new.items))) }
+    ensures picks { IfOk result (λ _. IsPick P.picks scenario.now (meeting_is m.now) (offering pickers.old (carried_are carried.old.items)) (offering pickers.new (carried_are carried.new.items))) }
     ensures twins { IfOk result (λ _. AreTwins scenario.now m.now.step_at (meetings_to scenario.now m.now.number m.now.hop) (carried_are carried.new.items) twins.new) }
 {
     let shape = scenario.shape();
@@ -140,5 +141,5 @@ pub fn meet<P: Picker>(
     if epoch == 0 {
         return Ok(());
     }
-    ask(scenario, m, cargo, pickers, twins, carried)
+    offer(scenario, m, cargo, pickers, twins, carried)
 }

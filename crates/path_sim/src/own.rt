@@ -3,7 +3,7 @@ ghost use Rattle.std.specs.Prelude.{◌≡◌, All, IfOk, length};
 ghost use Rattle.lg_model.specs.Scenario.{IsScenario};
 ghost use Rattle.lg_model.specs.Carrying.{picked, IsAllowed};
 ghost use Rattle.lg_model.specs.Trace.{meetings};
-ghost use Rattle.lg_model.specs.Twin.{AreTwins};
+ghost use Rattle.lg_model.specs.TwinsState.{AreTwins};
 ghost use Rattle.path_sim.specs.Parts.{carried_are, IsNamed};
 ghost use Rattle.path_sim.specs.Arrived.{HaveArrived};
 ghost use Rattle.path_sim.specs.Own.{AreFresh};

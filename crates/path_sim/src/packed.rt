@@ -1,8 +1,7 @@
 //! A column of a frozen sketch, packed.
-ghost use Rattle.std.specs.Prelude.{◌≡◌, ◌<◌, ◌-◌};
-ghost use Rattle.lg_model.specs.Sketch.{column_at};
+ghost use Rattle.std.specs.Prelude.{◌<◌};
 ghost use Rattle.sketchlet_wire.specs.Packing.{IsPacked};
-ghost use Rattle.sketchlet_wire.specs.Carried.{dims_of};
+ghost use Rattle.path_sim.specs.Parts.{frozen_column};
 
 use epoch_freeze::Twins;
 use lg_model::{Dims, Key};
@@ -12,7 +11,7 @@ use sketchlet_wire::{Column, Packed};
 pub fn pack(twins: &Twins, switch: u16, index: u16) -> Packed
     requires frozen { 0 < twins.now.epoch }
     requires index { index < twins.now.shape.width }
-    ensures { IsPacked result (record { key = record { switch = switch; epoch = twins.now.epoch - 1; index = index }; dims = dims_of twins.now.shape; buckets = column_at twins.now.frozen index }) }
+    ensures { IsPacked result (frozen_column twins.now switch index) }
 {
     let shape = twins.shape();
     let Some(frozen) = twins.frozen() else {

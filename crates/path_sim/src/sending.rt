@@ -1,12 +1,14 @@
 //! Packets go their way.
 ghost use Rattle.std.specs.Prelude.{◌≡◌, ℕ, ◌<◌, ◌≤◌, ◌+◌, length, IfOk, All};
+ghost use Rattle.lg_model.specs.declared.limits.TheConstants.{MOST_PACKETS};
 ghost use Rattle.lg_model.specs.Placing.{places_of};
 ghost use Rattle.lg_model.specs.Trace.{reach, meetings_in, packets, packets_until};
-ghost use Rattle.lg_model.specs.Arriving.{packets_to, packet_at};
+ghost use Rattle.lg_model.specs.Arriving.{packet_at};
+ghost use Rattle.lg_model.specs.Midway.{packets_to};
 ghost use Rattle.lg_model.specs.Carrying.{Adds};
-ghost use Rattle.lg_model.specs.Asking.{IsPick, asking};
+ghost use Rattle.lg_model.specs.Offering.{IsPick, offering};
 ghost use Rattle.lg_model.specs.Runs.{Runs};
-ghost use Rattle.lg_model.specs.Twin.{AreTwins};
+ghost use Rattle.lg_model.specs.TwinsState.{AreTwins};
 ghost use Rattle.path_sim.specs.Parts.{carried_are, IsBefore, IsCargo, IsNamed};
 ghost use Rattle.path_sim.specs.Sending.{packet_is, IsFit};
 ghost use Rattle.path_sim.specs.Moving.{IsTraffic};
@@ -51,7 +53,7 @@ fn send<P: Picker>(
     carried: &mut Vec<Carry>,
 ) -> Result<Option<Packed>, Memory>
     requires number { number < length (packets scenario.now) }
-    requires few { length (packets scenario.now) ≤ 1000000 }
+    requires few { length (packets scenario.now) ≤ MOST_PACKETS }
     requires packet { packet_at scenario.now number ≡ packet_is sent.now }
     requires fits { IsFit (length scenario.now.switches) sent.now }
     requires places { places.now ≡ places_of scenario.now.shape sent.now.flow.now.key }
@@ -64,8 +66,8 @@ fn send<P: Picker>(
     ensures adds { IfOk result (λ _. Adds number (carried_are carried.old.items) (carried_are carried.new.items)) }
     ensures few_carried { IfOk result (λ _. length carried.new.items ≤ number + 1) }
     ensures names { IfOk result (λ _. All (IsNamed scenario.now) carried.old.items → All (IsNamed scenario.now) carried.new.items) }
-    ensures picks { IfOk result (λ _. (start : _) → Runs (IsPick P.picks scenario.now) (meetings_in (packets_to scenario.now number)) start (asking pickers.old (carried_are carried.old.items))
-        → Runs (IsPick P.picks scenario.now) (meetings_in (packets_to scenario.now (number + 1))) start (asking pickers.new (carried_are carried.new.items))) }
+    ensures picks { IfOk result (λ _. (start : _) → Runs (IsPick P.picks scenario.now) (meetings_in (packets_to scenario.now number)) start (offering pickers.old (carried_are carried.old.items))
+        → Runs (IsPick P.picks scenario.now) (meetings_in (packets_to scenario.now (number + 1))) start (offering pickers.new (carried_are carried.new.items))) }
     ensures twins { IfOk result (λ _. AreTwins scenario.now sent.now.step_at (meetings_in (packets_to scenario.now (number + 1))) (carried_are carried.new.items) twins.new) }
 {
     let hops = sent.flow.path.items();
@@ -101,7 +103,7 @@ pub fn send_one<P: Picker>(
     traffic: &mut Traffic,
 ) -> Result<(), Memory>
     requires number { number < length (packets scenario.now) }
-    requires few { length (packets scenario.now) ≤ 1000000 }
+    requires few { length (packets scenario.now) ≤ MOST_PACKETS }
     requires packet { packet_at scenario.now number ≡ packet_is sent.now }
     requires inside { sent.now.step_at ≤ length scenario.now.steps }
     requires first { length (packets_until scenario.now sent.now.step_at) ≤ number }
@@ -111,8 +113,8 @@ pub fn send_one<P: Picker>(
     requires pickers { length pickers.old ≡ length scenario.now.switches }
     requires traffic { IsTraffic scenario.now sent.now.step_at number traffic.old }
     ensures traffic { IfOk result (λ _. IsTraffic scenario.now sent.now.step_at (number + 1) traffic.new) }
-    ensures picks { IfOk result (λ _. (start : _) → Runs (IsPick P.picks scenario.now) (meetings_in (packets_to scenario.now number)) start (asking pickers.old (carried_are traffic.old.carried.items))
-        → Runs (IsPick P.picks scenario.now) (meetings_in (packets_to scenario.now (number + 1))) start (asking pickers.new (carried_are traffic.new.carried.items))) }
+    ensures picks { IfOk result (λ _. (start : _) → Runs (IsPick P.picks scenario.now) (meetings_in (packets_to scenario.now number)) start (offering pickers.old (carried_are traffic.old.carried.items))
+        → Runs (IsPick P.picks scenario.now) (meetings_in (packets_to scenario.now (number + 1))) start (offering pickers.new (carried_are traffic.new.carried.items))) }
 {
     let cargo = send(
         scenario,
@@ -145,7 +147,7 @@ pub fn send_all<P: Picker>(
     traffic: &mut Traffic,
 ) -> Result<(), Memory>
     requires number { number + count ≤ length (packets scenario.now) }
-    requires few { length (packets scenario.now) ≤ 1000000 }
+    requires few { length (packets scenario.now) ≤ MOST_PACKETS }
     requires packets { (b : ℕ) → b < count → packet_at scenario.now (number + b) ≡ packet_is sent.now }
     requires inside { sent.now.step_at ≤ length scenario.now.steps }
     requires first { length (packets_until scenario.now sent.now.step_at) ≤ number }
@@ -155,8 +157,8 @@ pub fn send_all<P: Picker>(
     requires pickers { length pickers.old ≡ length scenario.now.switches }
     requires traffic { IsTraffic scenario.now sent.now.step_at number traffic.old }
     ensures traffic { IfOk result (λ _. IsTraffic scenario.now sent.now.step_at (number + count) traffic.new) }
-    ensures picks { IfOk result (λ _. (start : _) → Runs (IsPick P.picks scenario.now) (meetings_in (packets_to scenario.now number)) start (asking pickers.old (carried_are traffic.old.carried.items))
-        → Runs (IsPick P.picks scenario.now) (meetings_in (packets_to scenario.now (number + count))) start (asking pickers.new (carried_are traffic.new.carried.items))) }
+    ensures picks { IfOk result (λ _. (start : _) → Runs (IsPick P.picks scenario.now) (meetings_in (packets_to scenario.now number)) start (offering pickers.old (carried_are traffic.old.carried.items))
+        → Runs (IsPick P.picks scenario.now) (meetings_in (packets_to scenario.now (number + count))) start (offering pickers.new (carried_are traffic.new.carried.items))) }
 {
     for b in 0..count {
         send_one(scenario, number + b, sent, places, pickers, traffic)?;

@@ -1,12 +1,13 @@
 //! The steps of a scenario, one after the other.
 ghost use Rattle.std.specs.Prelude.{◌≡◌, ℕ, ◌<◌, ◌≤◌, ◌+◌, [], length, map, slice_set, slice_index_or, IfOk};
+ghost use Rattle.lg_model.specs.declared.limits.TheConstants.{MOST_ENDS, MOST_HOPS, MOST_PACKETS};
 ghost use Rattle.lg_model.specs.Scenario.{IsScenario, reached};
 ghost use Rattle.lg_model.specs.Trace.{meetings_in, packets_until};
 ghost use Rattle.lg_model.specs.declared.scenario.Step.TheVariants as steps;
-ghost use Rattle.lg_model.specs.Arriving.{packets_to};
-ghost use Rattle.lg_model.specs.Asking.{IsPick, asking};
+ghost use Rattle.lg_model.specs.Midway.{packets_to};
+ghost use Rattle.lg_model.specs.Offering.{IsPick, offering};
 ghost use Rattle.lg_model.specs.Runs.{Runs};
-ghost use Rattle.lg_model.specs.Twin.{Twin, with_end};
+ghost use Rattle.lg_model.specs.TwinsState.{TwinsState, with_end};
 ghost use Rattle.path_sim.specs.Parts.{carried_are, flow_places, step_in};
 ghost use Rattle.path_sim.specs.Moving.{IsTraffic};
 
@@ -23,8 +24,8 @@ use scenario_text::Scenario;
 // A switch ends an epoch.
 fn end_one(twins: &mut [Twins], switch_at: u16)
     requires inside { switch_at < length twins.old }
-    requires few { (d : Twin) → (slice_index_or twins.old switch_at d).epoch < 65535 }
-    ensures { (d : Twin) → twins.new ≡ slice_set twins.old switch_at (with_end (slice_index_or twins.old switch_at d)) }
+    requires few { (d : TwinsState) → (slice_index_or twins.old switch_at d).epoch < MOST_ENDS }
+    ensures { (d : TwinsState) → twins.new ≡ slice_set twins.old switch_at (with_end (slice_index_or twins.old switch_at d)) }
 {
     let twin = &mut twins[switch_at as usize];
     twin.end();
@@ -32,7 +33,7 @@ fn end_one(twins: &mut [Twins], switch_at: u16)
 
 // Every switch ends an epoch.
 fn end_all(twins: &mut [Twins])
-    requires { (s : ℕ) (d : Twin) → s < length twins.old → (slice_index_or twins.old s d).epoch < 65535 }
+    requires { (s : ℕ) (d : TwinsState) → s < length twins.old → (slice_index_or twins.old s d).epoch < MOST_ENDS }
     ensures { twins.new ≡ map with_end twins.old }
 {
     for s in 0..twins.len() {
@@ -63,10 +64,10 @@ fn packet_step<P: Picker>(
     requires pickers { length pickers.old ≡ length scenario.now.switches }
     requires traffic { IsTraffic scenario.now step_at number traffic.old }
     ensures number { number + count ≡ length (packets_until scenario.now (step_at + 1)) }
-    ensures few { number + count ≤ 1000000 }
+    ensures few { number + count ≤ MOST_PACKETS }
     ensures traffic { IfOk result (λ _. IsTraffic scenario.now (step_at + 1) (number + count) traffic.new) }
-    ensures picks { IfOk result (λ _. (start : _) → Runs (IsPick P.picks scenario.now) (meetings_in (packets_to scenario.now number)) start (asking pickers.old (carried_are traffic.old.carried.items))
-        → Runs (IsPick P.picks scenario.now) (meetings_in (packets_to scenario.now (number + count))) start (asking pickers.new (carried_are traffic.new.carried.items))) }
+    ensures picks { IfOk result (λ _. (start : _) → Runs (IsPick P.picks scenario.now) (meetings_in (packets_to scenario.now number)) start (offering pickers.old (carried_are traffic.old.carried.items))
+        → Runs (IsPick P.picks scenario.now) (meetings_in (packets_to scenario.now (number + count))) start (offering pickers.new (carried_are traffic.new.carried.items))) }
 {
     let flow = &scenario.flows()[flow_at as usize];
     let places = &places[flow_at as usize];
@@ -83,7 +84,7 @@ fn packet_step<P: Picker>(
 
 // How many hops a packet of that fate reaches, of at most 16.
 fn hops_reached(hops: usize, fate: Fate) -> u8
-    requires { hops ≤ 16 }
+    requires { hops ≤ MOST_HOPS }
     ensures { result ≡ reached fate hops }
 {
     match fate {
@@ -109,8 +110,8 @@ pub fn step_once<P: Picker>(
     requires traffic { IsTraffic scenario.now step_at number traffic.old }
     ensures number { IfOk result (λ next. next ≡ length (packets_until scenario.now (step_at + 1))) }
     ensures traffic { IfOk result (λ next. IsTraffic scenario.now (step_at + 1) next traffic.new) }
-    ensures picks { IfOk result (λ next. (start : _) → Runs (IsPick P.picks scenario.now) (meetings_in (packets_to scenario.now number)) start (asking pickers.old (carried_are traffic.old.carried.items))
-        → Runs (IsPick P.picks scenario.now) (meetings_in (packets_to scenario.now next)) start (asking pickers.new (carried_are traffic.new.carried.items))) }
+    ensures picks { IfOk result (λ next. (start : _) → Runs (IsPick P.picks scenario.now) (meetings_in (packets_to scenario.now number)) start (offering pickers.old (carried_are traffic.old.carried.items))
+        → Runs (IsPick P.picks scenario.now) (meetings_in (packets_to scenario.now next)) start (offering pickers.new (carried_are traffic.new.carried.items))) }
 {
     match &scenario.steps()[step_at] {
         Step::Packet {

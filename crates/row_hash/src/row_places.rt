@@ -1,5 +1,6 @@
 //! The places of a flow (docs/DEFINITIONS.md, Places).
 ghost use Rattle.std.specs.Prelude.{◌≡◌, ◌<◌, ◌≤◌, length, take, slice_index};
+ghost use Rattle.lg_model.specs.declared.limits.TheConstants.{MOST_ROWS};
 
 use std::marker::Model;
 
@@ -12,18 +13,19 @@ pub struct Places {
 
 impl Model for Places {
     ghost use Rattle.std.specs.Prelude.{List, ℕ, ◌≤◌, take};
+    ghost use Rattle.lg_model.specs.declared.limits.TheConstants.{MOST_ROWS};
 
     ghost Value = { List ℕ };
 
     ghost view = { λ p. take p.rows p.at };
 
-    ghost invariant = { λ p. p.rows ≤ 8 };
+    ghost invariant = { λ p. p.rows ≤ MOST_ROWS };
 }
 
 impl Places {
     // The first places of an array.
     pub(crate) fn first(rows: u8, at: [u16; 8]) -> Places
-        requires { rows ≤ 8 }
+        requires { rows ≤ MOST_ROWS }
         ensures { result ≡ take rows at }
     {
         Places { rows, at }

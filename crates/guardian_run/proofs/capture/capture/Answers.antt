@@ -8,7 +8,7 @@ use Rattle.lg_model.specs.Matching.{Matched}
 use Rattle.lg_model.specs.Carrying.{picked}
 use Rattle.lg_model.specs.Arriving.{brought}
 use Rattle.lg_model.proofs.Pairing.{matched_length}
-use Rattle.path_sim.specs.Parts.{IsOf}
+use Rattle.sketchlet_wire.specs.Packing.{IsPacked}
 use Rattle.guardian_run.specs.Outputs.{host_lines}
 use Rattle.guardian_run.proofs.Keeping.{lines_more, brought_more, host_known}
 use Rattle.guardian_run.proofs.capture.capture.Goals as goal
@@ -18,15 +18,15 @@ loop-at-preserved c =
     let w = c.args.scenario.now in
     let at = c.loop-at.at in
     let inside : at < length w.hosts = omega (arith, c.loop-at-test.true, ap length c.hosts-hosts.ensures.value) in
-    let came : Matched (IsOf w) c.arrived-arrived.result.now (brought w (picked w) at) =
-    subst (λ xs. Matched (IsOf w) xs (brought w (picked w) at)) (sym c.arrived-arrived.ensures) (c.requires.each at (omega (arith, inside, c.requires.hosts))) in
+    let came : Matched IsPacked c.arrived-arrived.result.now (brought w (picked w) at) =
+    subst (λ xs. Matched IsPacked xs (brought w (picked w) at)) (sym c.arrived-arrived.ensures) (c.requires.each at (omega (arith, inside, c.requires.hosts))) in
     let here : slice_index_or w.hosts at c.index-hosts-at.result ≡ c.index-hosts-at.result = host_known w at c.hosts-hosts.result.now c.index-hosts-at.result c.hosts-hosts.ensures.value c.index-hosts-at.is in
     let put : c.put_host.new.text.items ≡ c.loop-at.text.items ++ host_lines w (at, slice_index_or w.hosts at c.index-hosts-at.result) =
     c.in_ok-put_host.ensures ∙ sym (ap (λ (x : HostLine). c.loop-at.text.items ++ host_lines w (at, x)) here) in
     record {
       text = lines_more w at c.index-hosts-at.result c.loop-at.text.items c.put_host.new.text.items inside c.loop-at.invariant.text put;
       count =
-          (λ j. c.loop-at.invariant.count j + matched_length (IsOf w) c.arrived-arrived.result.now (brought w (picked w) at) came j)
+          (λ j. c.loop-at.invariant.count j + matched_length IsPacked c.arrived-arrived.result.now (brought w (picked w) at) came j)
           ∙ sym (ap length (brought_more w at) ∙ length-append (flat_map (brought w (picked w)) (range_with_len 0 at)) (brought w (picked w) at));
       few = omega (arith, c.loop-at.invariant.few, c.arrived-arrived.type_inv);
     }

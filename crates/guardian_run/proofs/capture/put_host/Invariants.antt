@@ -1,7 +1,8 @@
 use Rattle.std.specs.Prelude.{◌≡◌, ◌++◌, take}
 use Rattle.std.specs.List.{flat_map}
 use Rattle.lg_model.specs.Carrying.{picked}
-use Rattle.lg_model.specs.Arriving.{Column, brought}
+use Rattle.lg_model.specs.Arriving.{brought}
+use Rattle.lg_model.specs.Columns.{Column}
 use Rattle.sketchlet_wire.specs.Spelling.{spelling}
 use Rattle.sketchlet_wire.specs.Carried.{column_data, dims_of}
 use Rattle.report_text.specs.Lines.{hex_line}

@@ -1,4 +1,4 @@
-use Rattle.lg_model.proofs.CounterLimits.{limits}
+use Rattle.lg_model.proofs.LowCounters.{limits}
 use Rattle.lg_model.proofs.laws.counters_stay_low.Goals as goal
 
 pub returns : goal.returns

@@ -3,7 +3,7 @@ use Rattle.std.specs.Prelude.{slice_index}
 use Rattle.lg_model.specs.Placing.{Shape, places_of}
 use Rattle.lg_model.specs.Sketch.{raise}
 use Rattle.lg_model.specs.Trace.{observation}
-use Rattle.lg_model.specs.Twin.{Twin, with_seen}
+use Rattle.lg_model.specs.TwinsState.{TwinsState, with_seen}
 use Rattle.std.proofs.lemmas.List.{get_or_default}
 use Rattle.row_hash.proofs.PlacesInside.{length-places_of, places_inside}
 use Rattle.path_sim.specs.Parts.{meeting_is}
@@ -26,8 +26,8 @@ returns c d =
     let s = c.args.m.now.switch_at in
     let key = c.args.m.now.key in
     let t = c.index-twins-m.result in
-    let old : Twin = slice_index_or xs s t in
+    let old : TwinsState = slice_index_or xs s t in
     let at : c.args.places.now ≡ places_of old.shape key = c.requires.places ∙ ap (λ (q : Shape). places_of q key) (sym (c.requires.shape t)) in
     let seen : c.see.new.self ≡ with_seen old (observation (meeting_is c.args.m.now)) =
     c.see.ensures ∙ (λ i. record old { current = raise (slice_index (at i)) c.args.m.now.size c.args.m.now.delay old.current }) in
-    ap (slice_set xs s) (seen ∙ ap (λ (q : Twin). with_seen q (observation (meeting_is c.args.m.now))) (get_or_default xs s t d c.requires.inside))
+    ap (slice_set xs s) (seen ∙ ap (λ (q : TwinsState). with_seen q (observation (meeting_is c.args.m.now))) (get_or_default xs s t d c.requires.inside))

@@ -1,9 +1,9 @@
 use Rattle.std.proofs.Common.{◌∙◌, length}
 use Rattle.std.proofs.lemmas.Result.{IfOk-weaker}
 use Rattle.lg_model.specs.Carrying.{picked, IsAllowed}
-use Rattle.lg_model.specs.Asking.{asking}
+use Rattle.lg_model.specs.Offering.{offering}
 use Rattle.lg_model.specs.Trace.{meetings}
-use Rattle.lg_model.specs.Twin.{AreTwins}
+use Rattle.lg_model.specs.TwinsState.{AreTwins}
 use Rattle.path_sim.specs.Outcome.{Outcome}
 use Rattle.path_sim.specs.Parts.{carried_are}
 use Rattle.path_sim.specs.Arrived.{HaveArrived}
@@ -14,7 +14,7 @@ pub returns-clause-picked : goal.returns-clause-picked
 returns-clause-picked c =
     let w = c.args.scenario.now in
     let known = c.in_ok-pickers.ensures in
-    IfOk-weaker c.run_net.result _ _ (λ a run. own_picked w c.deref_mut.result.now (asking c.run_net.new.pickers (carried_are a.carried)) known.fits (c.deref_mut.ensures.value ∙ known.fresh) run) c.run_net.ensures.picks
+    IfOk-weaker c.run_net.result _ _ (λ a run. own_picked w c.deref_mut.result.now (offering c.run_net.new.pickers (carried_are a.carried)) known.fits (c.deref_mut.ensures.value ∙ known.fresh) run) c.run_net.ensures.picks
 
 pub returns-clause-allowed : goal.returns-clause-allowed
 returns-clause-allowed c =

@@ -2,14 +2,14 @@ use Rattle.std.proofs.Common.{◌≡◌, ◌<◌, ◌≤◌, ◌+◌, ◌-◌, �
 use Rattle.std.specs.Prelude.{slice_index, ◌++◌, ◌∷◌, []}
 use Rattle.lg_model.specs.Trace.{Packet, Meeting, reach, meeting_of, meetings_of}
 use Rattle.lg_model.specs.Arriving.{packet_at}
-use Rattle.lg_model.specs.Asking.{IsPick, asking}
+use Rattle.lg_model.specs.Offering.{IsPick, offering}
 use Rattle.lg_model.specs.Runs.{Runs}
-use Rattle.lg_model.specs.Twin.{AreTwins}
+use Rattle.lg_model.specs.TwinsState.{AreTwins}
 use Rattle.lg_model.proofs.Cargo.{adds_none, adds_one, adds_both}
 use Rattle.lg_model.proofs.Running.{runs_more}
 use Rattle.path_sim.specs.Parts.{carried_are, meetings_to}
 use Rattle.path_sim.specs.Sending.{packet_is}
-use Rattle.path_sim.proofs.Asks.{none_carried, before_more, pick_before, no_cargo}
+use Rattle.path_sim.proofs.Offers.{none_carried, before_more, pick_before, no_cargo}
 use Rattle.path_sim.proofs.Walking.{meetings_to_start, meetings_to_end, length_meetings, hop_more}
 use Rattle.path_sim.proofs.sending.send.Goals as goal
 
@@ -24,7 +24,7 @@ loop-k-init g c =
       adds = adds_none n cs;
       few_carried = omega (arith, c.requires.few_carried);
       names = λ all. all;
-      runs = λ start h. subst (λ (ms : List Meeting). Runs (IsPick g.P.Picker.picks w) ms start (asking c.args.pickers.now cs)) (sym (meetings_to_start w n)) h;
+      runs = λ start h. subst (λ (ms : List Meeting). Runs (IsPick g.P.Picker.picks w) ms start (offering c.args.pickers.now cs)) (sym (meetings_to_start w n)) h;
       twins = subst (λ (ms : List Meeting). AreTwins w c.args.sent.now.step_at ms cs c.args.twins.now) (sym (meetings_to_start w n)) c.requires.twins;
     }
 
@@ -64,8 +64,8 @@ loop-k-preserved g c =
     let inside : reach p ≤ length p.flow.path = omega (arith, r, c.requires.fits.reach) in
     let cs = carried_are c.loop-k.carried.items in
     let cs' = carried_are c.meet.new.carried.items in
-    let old = asking c.loop-k.pickers cs in
-    let new = asking c.meet.new.pickers cs' in
+    let old = offering c.loop-k.pickers cs in
+    let new = offering c.meet.new.pickers cs' in
     let pick : IsPick g.P.Picker.picks w m old new = c.in_ok-meet.ensures.picks in
     let back : (k + 1) - 1 ≡ k = omega arith in
     let more : meetings_to w n (k + 1) ≡ meetings_to w n k ++ m ∷ [] =
@@ -91,7 +91,7 @@ returns-clause-picks g c start h =
     let inside : reach (packet_at w n) ≤ length (packet_at w n).flow.path =
     subst (λ (p : Packet). reach p ≤ length p.flow.path) (sym c.requires.packet) (omega (arith, c.requires.fits.reached_is, c.requires.fits.reach)) in
     let all : k ≡ length (meetings_of (n, packet_at w n)) = omega (arith, c.loop-k-test.false, c.loop-k.auto.k-end, r, length_meetings n (packet_at w n) inside) in
-    subst (λ (ms : List Meeting). Runs (IsPick g.P.Picker.picks w) ms start (asking c.loop-k.pickers (carried_are c.loop-k.carried.items))) (meetings_to_end w n k c.requires.number all) (c.loop-k.invariant.runs start h)
+    subst (λ (ms : List Meeting). Runs (IsPick g.P.Picker.picks w) ms start (offering c.loop-k.pickers (carried_are c.loop-k.carried.items))) (meetings_to_end w n k c.requires.number all) (c.loop-k.invariant.runs start h)
 
 pub returns-clause-twins : goal.returns-clause-twins
 returns-clause-twins g c =

@@ -1,7 +1,7 @@
 use Rattle.std.specs.Prelude.{◌+◌}
 use Rattle.lg_model.specs.Trace.{meetings_in}
-use Rattle.lg_model.specs.Arriving.{packets_to}
-use Rattle.lg_model.specs.Asking.{IsPick, asking}
+use Rattle.lg_model.specs.Midway.{packets_to}
+use Rattle.lg_model.specs.Offering.{IsPick, offering}
 use Rattle.lg_model.specs.Runs.{Runs}
 use Rattle.path_sim.specs.Parts.{carried_are}
 use Rattle.path_sim.specs.Moving.{IsTraffic}
@@ -10,6 +10,6 @@ use Rattle.path_sim.proofs.sending.send_all.Given as goal
 abbrev pub invariant-loop-b : goal.invariant-loop-b
 invariant-loop-b g l = record {
   traffic : IsTraffic l.scenario l.sent.step_at (l.number + l.b) l.traffic;
-  runs : (start : _) → Runs (IsPick g.P.Picker.picks l.scenario) (meetings_in (packets_to l.scenario l.number)) start (asking l.fn.pickers (carried_are l.fn.traffic.carried.items))
-      → Runs (IsPick g.P.Picker.picks l.scenario) (meetings_in (packets_to l.scenario (l.number + l.b))) start (asking l.pickers (carried_are l.traffic.carried.items));
+  runs : (start : _) → Runs (IsPick g.P.Picker.picks l.scenario) (meetings_in (packets_to l.scenario l.number)) start (offering l.fn.pickers (carried_are l.fn.traffic.carried.items))
+      → Runs (IsPick g.P.Picker.picks l.scenario) (meetings_in (packets_to l.scenario (l.number + l.b))) start (offering l.pickers (carried_are l.traffic.carried.items));
 }

@@ -6,7 +6,7 @@ use Rattle.std.proofs.lemmas.List.{get_or_default}
 use Rattle.lg_model.specs.declared.scenario.Step.TheVariants as steps
 use Rattle.lg_model.specs.Scenario.{is_end_of, flow_at, no_flow}
 use Rattle.lg_model.specs.Trace.{packets_until, meetings_in}
-use Rattle.lg_model.specs.Arriving.{packets_to}
+use Rattle.lg_model.specs.Midway.{packets_to}
 use Rattle.lg_model.proofs.Twinning.{twins_stay}
 use Rattle.path_sim.specs.Parts.{carried_are, step_in}
 use Rattle.path_sim.proofs.Steps.{number_more, number_fits, packet_is_at, step_fits, few_packets, next_step}

@@ -1,8 +1,9 @@
 use Rattle.std.proofs.Common.{◌≡◌, ◌<◌, ◌∙◌, refl, sym, ap, subst, arith, length, List, eq-eqb}
 use Rattle.lg_model.specs.declared.scenario.Step.TheVariants as steps
-use Rattle.lg_model.specs.Arriving.{AreDelivered}
+use Rattle.lg_model.specs.Midway.{AreDelivered}
 use Rattle.sketchlet_wire.specs.declared.packed.Packed.{Packed}
-use Rattle.path_sim.specs.Parts.{step_in, IsOf}
+use Rattle.path_sim.specs.Parts.{step_in}
+use Rattle.sketchlet_wire.specs.Packing.{IsPacked}
 use Rattle.path_sim.proofs.Onward.{refill}
 use Rattle.path_sim.proofs.Steps.{step_known, step_fits, epoch_fits, ended_one, ended_every, released_step, quiet_number}
 use Rattle.path_sim.proofs.stepping.step_once.Goals as goal
@@ -41,7 +42,7 @@ returns-in-End-clause-traffic g c =
     let fits : s < length w.switches = step_fits w n (steps.End s) c.steps.ensures.fits c.requires.inside step in
     let inside : s < length c.deref_mut.result.now = omega (arith, c.requires.traffic.twins.count, ap length c.deref_mut.ensures.value) in
     let twins = refill old.twins.len old.twins.items c.end_one.new.twins (c.end_one.auto.twins ∙ c.deref_mut.ensures.len) in
-    let d = Rattle.lg_model.specs.Twin.new_twin w.shape in
+    let d = Rattle.lg_model.specs.TwinsState.new_twins w.shape in
     ended_one w n c.args.number s old _ c.deref_mut.result.now c.end_one.new.twins d c.requires.inside c.requires.number step inside c.requires.traffic c.deref_mut.ensures.value (c.end_one.ensures d) twins refl refl refl
 
 pub returns-in-EndAll-clause-number : goal.returns-in-EndAll-clause-number
@@ -76,4 +77,4 @@ returns-in_ok-release-in-Release-clause-traffic g c =
     let inboxes = refill old.inboxes.len old.inboxes.items c.release.new.inboxes (c.release.auto.inboxes ∙ c.deref_mut-in-Release.ensures.len) in
     let many : length c.release.new.inboxes ≡ length old.inboxes.items = c.release.auto.inboxes ∙ ap length c.deref_mut-in-Release.ensures.value in
     released_step w n c.args.number old _ c.release.new.inboxes c.requires.inside c.requires.number step c.requires.traffic refl refl inboxes many c.in_ok-release-in-Release.ensures.empty
-    (λ v ds hs waits came. c.in_ok-release-in-Release.ensures.arrived v ds hs waits (subst (λ (xs : List (List Packed)). AreDelivered (IsOf v) ds xs) (sym c.deref_mut-in-Release.ensures.value) came))
+    (λ v ds hs waits came. c.in_ok-release-in-Release.ensures.arrived v ds hs waits (subst (λ (xs : List (List Packed)). AreDelivered IsPacked ds xs) (sym c.deref_mut-in-Release.ensures.value) came))

@@ -2,7 +2,7 @@ use Rattle.std.proofs.Common.{◌≡◌, sym, ap, ◌∙◌, subst}
 use Rattle.std.specs.BTreeMap.{insert_entry}
 use Rattle.lg_model.specs.declared.column.Key.{Key}
 use Rattle.lg_model.specs.Answer.{key_cmp, Content}
-use Rattle.sketchlet_wire.specs.Carried.{dims_of}
+use Rattle.lg_model.specs.Columns.{dims_of}
 use Rattle.column_book.specs.Kept.{BookState, AreEntries, content_in}
 use Rattle.column_book.proofs.Entries.{AreEntries-insert, content_in-insert}
 use Rattle.column_book.proofs.book.Book.keep.Goals as goal
@@ -18,4 +18,4 @@ pub returns-clause-kept : goal.returns-clause-kept
 returns-clause-kept c =
     let es = c.self.inside.columns.entries in
     rw (c.in_ok-insert.ensures.entries, ← c.self.view_is) (ap (λ (content : Content). record { shape = c.self.inside.shape; content = content })
-    (content_in-insert key_cmp es c.key.result c.args.column.now ∙ ap (λ (k : Key). insert_entry key_cmp (content_in es) k c.args.column.now.buckets) c.key.ensures.value))
+    (content_in-insert key_cmp es c.key.result c.args.column.now ∙ ap (λ (k : Key). insert_entry key_cmp (content_in es) k c.args.column.now.cells) c.key.ensures.value))

@@ -9,7 +9,7 @@ returns-clause-bytes c =
     let bytes = c.self.inside.bytes.items in
     let left = ap (λ (s : SourceState). s.left) c.self.view_is in
     let count = c.copy_front-count.ensures.count in
-    let copied = rw c.deref-2.ensures.value at c.copy_front-count.ensures.bytes in (
+    let copied = rw c.deref.ensures.value at c.copy_front-count.ensures.bytes in (
       front_and_rest c.copy_front-count.result at bytes c.copy_front-count.new.buf _ left copied,
-      λ none room. drop_of_length-le bytes {i = at + c.copy_front-count.result} (omega (arith, length-drop at bytes, ap length (slice_rest at bytes), ap length c.deref-2.ensures.value)),
+      λ none room. drop_of_length-le bytes {i = at + c.copy_front-count.result} (omega (arith, length-drop at bytes, ap length (slice_rest at bytes), ap length c.deref.ensures.value)),
     )

@@ -5,12 +5,11 @@ use Rattle.std.proofs.lemmas.Option.{slice_get-get_or}
 use Rattle.lg_model.specs.Placing.{Shape}
 use Rattle.lg_model.specs.Trace.{ended_before}
 use Rattle.lg_model.specs.Carrying.{Offer, carry_at, hops_left}
-use Rattle.lg_model.specs.Asking.{IsLawful}
-use Rattle.lg_model.specs.Twin.{Twin, IsTwin}
-use Rattle.sketchlet_wire.specs.Carried.{dims_of}
+use Rattle.lg_model.specs.Offering.{IsLawful}
+use Rattle.lg_model.specs.TwinsState.{TwinsState, IsTwinsState}
 use Rattle.path_sim.specs.Parts.{meeting_is, carried_are, meetings_to, IsNamed}
-use Rattle.path_sim.proofs.Asks.{offer_is, carried_push, put_all, ask_yes, no_cargo, new_cargo}
-use Rattle.path_sim.proofs.meeting.ask.Goals as goal
+use Rattle.path_sim.proofs.Offers.{offer_is, carried_push, put_all, offer_yes, no_cargo, new_cargo}
+use Rattle.path_sim.proofs.meeting.offer.Goals as goal
 
 pub returns-in-None-clause-cargo : goal.returns-in-None-clause-cargo
 returns-in-None-clause-cargo g c =
@@ -25,7 +24,7 @@ returns-in-None-clause-picks g c =
     let t = c.index-twins-at.result in
     let p = slice_index_or c.args.pickers.now m.switch_at c.index-pickers-at.result in
     record {
-      asks = λ yes_ask. record {
+      offers = λ yes_offer. record {
         before = p;
         after = c.pick.new.self;
         answer = None;
@@ -37,7 +36,7 @@ returns-in-None-clause-picks g c =
         pickers = refl;
         carried = refl;
       };
-      passes = λ no_ask. absurd (false≢true (sym no_ask ∙ ask_yes w m cs c.requires.epoch c.requires.none));
+      passes = λ no_offer. absurd (false≢true (sym no_offer ∙ offer_yes w m cs c.requires.epoch c.requires.none));
     }
 
 pub returns-in_ok-push-in-Some-clause-cargo : goal.returns-in_ok-push-in-Some-clause-cargo
@@ -47,13 +46,13 @@ returns-in_ok-push-in-Some-clause-cargo g c =
     let cs = carried_are c.args.carried.now.items in
     let ts = c.args.twins.now in
     let t = c.index-twins-at.result in
-    let old : Twin = slice_index_or ts m.switch_at t in
-    let is : IsTwin w m.step_at (meetings_to w m.number m.hop) cs m.switch_at old = c.requires.twins.each m.switch_at t c.requires.switch in
+    let old : TwinsState = slice_index_or ts m.switch_at t in
+    let is : IsTwinsState w m.step_at (meetings_to w m.number m.hop) cs m.switch_at old = c.requires.twins.each m.switch_at t c.requires.switch in
     let epoch : c.epoch.result ≡ ended_before w m = c.epoch.ensures ∙ is.epoch in
     let pushed : carried_are c.push.new.self.items ≡ cs ++ carry_at w m c.in-Some.index ∷ [] =
     carried_push w m c.args.carried.now.items c.push.new.self.items _ c.epoch.result c.in-Some.index c.in_ok-push-in-Some.ensures.items epoch refl in
-    new_cargo w m (meetings_to w m.number m.hop) cs (carried_are c.push.new.self.items) ts t c.in-Some.index c.args.m.now.switch old.epoch (dims_of old.shape) old.frozen c.pack-packed.result
-    c.requires.twins c.requires.switch c.requires.epoch c.requires.none pushed c.requires.name is.epoch (ap dims_of is.shape) refl c.pack-packed.ensures
+    new_cargo w m (meetings_to w m.number m.hop) cs (carried_are c.push.new.self.items) ts t c.in-Some.index c.args.m.now.switch c.pack-packed.result
+    c.requires.twins c.requires.switch c.requires.epoch c.requires.none pushed c.requires.name c.pack-packed.ensures
 
 pub returns-in_ok-push-in-Some-clause-names : goal.returns-in_ok-push-in-Some-clause-names
 returns-in_ok-push-in-Some-clause-names g c =
@@ -72,7 +71,7 @@ returns-in_ok-push-in-Some-clause-picks g c =
     carried_push w m c.args.carried.now.items c.push.new.self.items _ c.epoch.result c.in-Some.index c.in_ok-push-in-Some.ensures.items epoch refl in
     let p = slice_index_or c.args.pickers.now m.switch_at c.index-pickers-at.result in
     record {
-      asks = λ yes_ask. record {
+      offers = λ yes_offer. record {
         before = p;
         after = c.pick.new.self;
         answer = Some c.in-Some.index;
@@ -84,7 +83,7 @@ returns-in_ok-push-in-Some-clause-picks g c =
         pickers = refl;
         carried = pushed;
       };
-      passes = λ no_ask. absurd (false≢true (sym no_ask ∙ ask_yes w m cs c.requires.epoch c.requires.none));
+      passes = λ no_offer. absurd (false≢true (sym no_offer ∙ offer_yes w m cs c.requires.epoch c.requires.none));
     }
 
 pub returns-in_ok-push-in-Some-clause-twins : goal.returns-in_ok-push-in-Some-clause-twins

@@ -1,5 +1,5 @@
 use Rattle.column_pick.proofs.Following.{words}
-use Rattle.column_pick.proofs.laws.words_by_asks.Goals as goal
+use Rattle.column_pick.proofs.laws.words_by_offers.Goals as goal
 
 pub returns : goal.returns
 returns c = words

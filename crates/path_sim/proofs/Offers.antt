@@ -1,4 +1,4 @@
--- One ask.
+-- One offer.
 use Rattle.std.specs.Prelude.{◌≡◌, ℕ, ◌+◌, ◌-◌, ◌<◌, ◌≤◌, Bool, true, false, List, [], ◌∷◌, ◌++◌, length, slice_index, slice_index_or, slice_set, Option, Some, None, nat_lt, ◌&&◌, ◌==◌, All}
 use Rattle.std.proofs.Common.{refl, sym, ap, ◌∙◌, subst, arith, rules, tests, inl, inr}
 use Rattle.std.specs.List.{find}
@@ -15,24 +15,23 @@ use Rattle.lg_model.specs.Scenario.{Scenario, ended}
 use Rattle.lg_model.specs.Sketch.{column_at}
 use Rattle.lg_model.specs.Trace.{Meeting, ended_before, observation}
 use Rattle.lg_model.specs.Carrying as model
-use Rattle.lg_model.specs.Carrying.{Offer, offer_at, carry_at, hops_left, is_ask, is_out, with_choice}
-use Rattle.lg_model.specs.Arriving.{Column, cargo, column_of}
-use Rattle.lg_model.specs.Asking.{Picks, IsPick, IsAsked, Asking, asking}
-use Rattle.lg_model.specs.Twin.{Twin, AreTwins, IsTwin, offer_of, with_put, with_seen}
+use Rattle.lg_model.specs.Carrying.{Offer, offer_at, carry_at, hops_left, is_offered, is_out, with_choice}
+use Rattle.lg_model.specs.Arriving.{cargo, column_of}
+use Rattle.lg_model.specs.Columns.{Column, dims_of}
+use Rattle.lg_model.specs.Offering.{Picks, IsPick, IsOffered, Offering, offering}
+use Rattle.lg_model.specs.TwinsState.{TwinsState, AreTwins, IsTwinsState, offer_of, with_put, with_seen}
 use Rattle.lg_model.specs.Matching.{MatchedOption}
 use Rattle.lg_model.proofs.Twinning.{twins_put, twins_see}
 use Rattle.lg_model.proofs.Cargo.{cargo_none, cargo_new, buckets_are}
 use Rattle.sketchlet_wire.specs.declared.packed.Packed.{Packed}
 use Rattle.sketchlet_wire.specs.Packing.{IsPacked}
-use Rattle.sketchlet_wire.specs.Spelling.{ColumnData}
-use Rattle.sketchlet_wire.specs.Carried.{column_data, dims_of}
 use Rattle.path_sim.specs.declared.carry.Carry.{Carry}
-use Rattle.path_sim.specs.Parts.{carry_is, carried_are, IsBefore, IsOf, IsCargo}
+use Rattle.path_sim.specs.Parts.{frozen_column, carry_is, carried_are, IsBefore, IsCargo}
 
-pub offer_is : (w : Scenario) (m : Meeting) (ms : List Meeting) (cs : List model.Carry) (ts : List Twin) (d : Twin) → AreTwins w m.step_at ms cs ts → m.switch_at < length ts →
+pub offer_is : (w : Scenario) (m : Meeting) (ms : List Meeting) (cs : List model.Carry) (ts : List TwinsState) (d : TwinsState) → AreTwins w m.step_at ms cs ts → m.switch_at < length ts →
     offer_of (slice_index_or ts m.switch_at d) ≡ offer_at w cs m
 offer_is w m ms cs ts d all inside =
-    let is : IsTwin w m.step_at ms cs m.switch_at (slice_index_or ts m.switch_at d) = all.each m.switch_at d inside in
+    let is : IsTwinsState w m.step_at ms cs m.switch_at (slice_index_or ts m.switch_at d) = all.each m.switch_at d inside in
     λ i. record { width = (is.shape i).width; put = is.put i; times = is.times i }
 
 -- the packet carries the column from then on
@@ -41,46 +40,46 @@ pub carried_push : (w : Scenario) (m : Meeting) (items new : List Carry) (x : Ca
 carried_push w m items new x e j pushed epoch is =
     ap carried_are pushed ∙ map-append carry_is items (x ∷ []) ∙ ap (λ (y : model.Carry). carried_are items ++ y ∷ []) (is ∙ (λ i. record { packet = m.number; hop = m.hop; switch_at = m.switch_at; epoch = epoch i - 1; index = j }))
 
-pub put_all : (w : Scenario) (m : Meeting) (ms : List Meeting) (cs cs' : List model.Carry) (ts : List Twin) (d t' : Twin) (j : ℕ) → AreTwins w m.step_at ms cs ts → m.switch_at < length ts →
+pub put_all : (w : Scenario) (m : Meeting) (ms : List Meeting) (cs cs' : List model.Carry) (ts : List TwinsState) (d t' : TwinsState) (j : ℕ) → AreTwins w m.step_at ms cs ts → m.switch_at < length ts →
     0 < ended_before w m → j < w.shape.width → cs' ≡ cs ++ carry_at w m j ∷ [] → t' ≡ with_put (slice_index_or ts m.switch_at d) j → AreTwins w m.step_at ms cs' (slice_set ts m.switch_at t')
 put_all w m ms cs cs' ts d t' j all inside some low pushed put =
     let back : (ended_before w m - 1) + 1 ≡ ended_before w m = omega arith in
     rw (pushed, put) (twins_put w m.step_at ms cs ts (carry_at w m j) d all inside back low)
 
-pub ask_yes : (w : Scenario) (m : Meeting) (cs : List model.Carry) → 0 < ended_before w m → model.carries cs m.number ≡ false → is_ask w cs m ≡ true
-ask_yes w m cs some none = let yes : nat_lt 0 (ended_before w m) ≡ true = search (rules, tests) in rw (yes, none) refl
+pub offer_yes : (w : Scenario) (m : Meeting) (cs : List model.Carry) → 0 < ended_before w m → model.carries cs m.number ≡ false → is_offered w cs m ≡ true
+offer_yes w m cs some none = let yes : nat_lt 0 (ended_before w m) ≡ true = search (rules, tests) in rw (yes, none) refl
 
 and_false : (b : Bool) → (b && false) ≡ false
 and_false true = refl
 and_false false = refl
 
--- a packet that carries a column, or a switch that froze nothing, asks for none
-pub ask_no : (w : Scenario) (m : Meeting) (cs : List model.Carry) → model.carries cs m.number ≡ true → is_ask w cs m ≡ false
-ask_no w m cs some = rw some (and_false (nat_lt 0 (ended_before w m)))
+-- a packet that carries a column, or a switch that froze nothing, offers for none
+pub offer_no : (w : Scenario) (m : Meeting) (cs : List model.Carry) → model.carries cs m.number ≡ true → is_offered w cs m ≡ false
+offer_no w m cs some = rw some (and_false (nat_lt 0 (ended_before w m)))
 
-pub ask_early : (w : Scenario) (m : Meeting) (cs : List model.Carry) → ended_before w m ≡ 0 → is_ask w cs m ≡ false
-ask_early w m cs none = rw none refl
+pub offer_early : (w : Scenario) (m : Meeting) (cs : List model.Carry) → ended_before w m ≡ 0 → is_offered w cs m ≡ false
+offer_early w m cs none = rw none refl
 
-pub pick_none : {S : Type 0} (picks : Picks S) (w : Scenario) (m : Meeting) (ps : List S) (cs : List model.Carry) → is_ask w cs m ≡ false → IsPick picks w m (asking ps cs) (asking ps cs)
-pick_none picks w m ps cs no_ask = record { asks = λ yes_ask. absurd (false≢true (sym no_ask ∙ yes_ask)); passes = λ q. refl }
+pub pick_none : {S : Type 0} (picks : Picks S) (w : Scenario) (m : Meeting) (ps : List S) (cs : List model.Carry) → is_offered w cs m ≡ false → IsPick picks w m (offering ps cs) (offering ps cs)
+pick_none picks w m ps cs no_offer = record { offers = λ yes_offer. absurd (false≢true (sym no_offer ∙ yes_offer)); passes = λ q. refl }
 
 -- the twins after the count
-pub seen_all : (w : Scenario) (m : Meeting) (ms ms' : List Meeting) (cs : List model.Carry) (ts ts' : List Twin) (d : Twin) → AreTwins w m.step_at ms cs ts → m.switch_at < length ts →
+pub seen_all : (w : Scenario) (m : Meeting) (ms ms' : List Meeting) (cs : List model.Carry) (ts ts' : List TwinsState) (d : TwinsState) → AreTwins w m.step_at ms cs ts → m.switch_at < length ts →
     ms' ≡ ms ++ m ∷ [] → ts' ≡ slice_set ts m.switch_at (with_seen (slice_index_or ts m.switch_at d) (observation m)) → AreTwins w m.step_at ms' cs ts'
 seen_all w m ms ms' cs ts ts' d all inside more counted = rw (more, counted) (twins_see w m.step_at ms cs ts m d all refl inside)
 
--- what is carried after an ask is carried by packets up to this one
-pub pick_before : {S : Type 0} (picks : Picks S) (w : Scenario) (m : Meeting) (old new : Asking S) → IsPick picks w m old new →
+-- what is carried after an offer is carried by packets up to this one
+pub pick_before : {S : Type 0} (picks : Picks S) (w : Scenario) (m : Meeting) (old new : Offering S) → IsPick picks w m old new →
     All (IsBefore (m.number + 1)) old.carried → All (IsBefore (m.number + 1)) new.carried
 pick_before {S} picks w m old new pick all =
-    (elim (is_ask w old.carried m) as (λ b. is_ask w old.carried m ≡ b → All (IsBefore (m.number + 1)) new.carried) [
-      | true ↦ λ q. let asked : IsAsked picks w m old new = pick.asks q in
-          subst (All (IsBefore (m.number + 1))) (sym asked.carried)
-          ((elim asked.answer as (λ (a : Option ℕ). All (IsBefore (m.number + 1)) (with_choice w m old.carried a)) [
+    (elim (is_offered w old.carried m) as (λ b. is_offered w old.carried m ≡ b → All (IsBefore (m.number + 1)) new.carried) [
+      | true ↦ λ q. let offered : IsOffered picks w m old new = pick.offers q in
+          subst (All (IsBefore (m.number + 1))) (sym offered.carried)
+          ((elim offered.answer as (λ (a : Option ℕ). All (IsBefore (m.number + 1)) (with_choice w m old.carried a)) [
             | None ↦ all
             | Some j ↦ All-push (IsBefore (m.number + 1)) old.carried (carry_at w m j) all (let e : m.number < m.number + 1 = omega arith in e)
           ]))
-      | false ↦ λ q. subst (λ (a : Asking S). All (IsBefore (m.number + 1)) a.carried) (sym (pick.passes q)) all
+      | false ↦ λ q. subst (λ (a : Offering S). All (IsBefore (m.number + 1)) a.carried) (sym (pick.passes q)) all
     ]) refl
 
 pub none_carried : (n : ℕ) (cs : List model.Carry) → All (IsBefore n) cs → model.carries cs n ≡ false
@@ -97,27 +96,31 @@ before_more n cs all = All-weaker (IsBefore n) (IsBefore (n + 1)) (λ c low. ome
 -- a packet that carries nothing has no cargo
 pub no_cargo : (w : Scenario) (cs : List model.Carry) (n : ℕ) (p : Option Packed) → model.carries cs n ≡ false → p ≡ None → IsCargo w cs n p
 no_cargo w cs n p none empty =
-    subst (λ (o : Option Packed). MatchedOption (IsOf w) o (cargo w cs n)) (sym empty) (subst (MatchedOption (IsOf w) None) (sym (cargo_none w cs n none)) tt)
+    subst (λ (o : Option Packed). MatchedOption IsPacked o (cargo w cs n)) (sym empty) (subst (MatchedOption IsPacked None) (sym (cargo_none w cs n none)) tt)
 
 -- and then the column that the switch froze last
-pub new_cargo : (w : Scenario) (m : Meeting) (ms : List Meeting) (cs cs' : List model.Carry) (ts : List Twin) (d : Twin) (j name epoch : ℕ) (dims : Dims) (table : List (List Bucket)) (p : Packed) →
-    AreTwins w m.step_at ms cs ts → m.switch_at < length ts → 0 < ended_before w m → model.carries cs m.number ≡ false → cs' ≡ cs ++ carry_at w m j ∷ [] →
-    name ≡ slice_index w.switches m.switch_at → epoch ≡ ended_before w m → dims ≡ dims_of w.shape → table ≡ (slice_index_or ts m.switch_at d).frozen →
-    IsPacked p (record { key = record { switch = name; epoch = epoch - 1; index = j }; dims = dims; buckets = column_at table j }) → IsCargo w cs' m.number (Some p)
-new_cargo w m ms cs cs' ts d j name epoch dims table p all inside some none pushed name_is epoch_is dims_is table_is is =
-    let packed_is : ColumnData = record { key = record { switch = name; epoch = epoch - 1; index = j }; dims = dims; buckets = column_at table j } in
+pub new_cargo : (w : Scenario) (m : Meeting) (ms : List Meeting) (cs cs' : List model.Carry) (ts : List TwinsState) (d : TwinsState) (j name : ℕ) (p : Packed) →
+    AreTwins w m.step_at ms cs ts → m.switch_at < length ts → 0 < ended_before w m → model.carries cs m.number ≡ false →
+    cs' ≡ cs ++ carry_at w m j ∷ [] → name ≡ slice_index w.switches m.switch_at →
+    IsPacked p (frozen_column (slice_index_or ts m.switch_at d) name j) → IsCargo w cs' m.number (Some p)
+new_cargo w m ms cs cs' ts d j name p all inside some none pushed name_is is =
+    let t : TwinsState = slice_index_or ts m.switch_at d in
+    let twins : IsTwinsState w m.step_at ms cs m.switch_at t = all.each m.switch_at d inside in
     let col : Column = column_of w (carry_at w m j) in
-    let buckets : column_at table j ≡ col.buckets = ap (λ (t : List (List Bucket)). column_at t j) table_is ∙ buckets_are w m ms cs ts d j all inside some in
-    let same : packed_is ≡ column_data (dims_of w.shape) col =
-    λ i. record { key = record { switch = name_is i; epoch = epoch_is i - 1; index = j }; dims = dims_is i; buckets = buckets i } in
+    let buckets : column_at t.frozen j ≡ col.cells.buckets = buckets_are w m ms cs ts d j all inside some in
+    let same : frozen_column t name j ≡ col = λ i. record {
+      key = record { switch = name_is i; epoch = twins.epoch i - 1; index = j };
+      dims = dims_of (twins.shape i);
+      cells = record { buckets = buckets i };
+    } in
     let there : cargo w cs' m.number ≡ Some col = ap (λ xs. cargo w xs m.number) pushed ∙ cargo_new w cs m j none in
-    subst (MatchedOption (IsOf w) (Some p)) (sym there) (subst (IsPacked p) same is)
+    subst (MatchedOption IsPacked (Some p)) (sym there) (subst (IsPacked p) same is)
 
 -- the count of columns put out is below that of all that are carried
-pub put_fits : (w : Scenario) (m : Meeting) (ms : List Meeting) (items : List Carry) (ts : List Twin) (d : Twin) → AreTwins w m.step_at ms (carried_are items) ts → m.switch_at < length ts →
+pub put_fits : (w : Scenario) (m : Meeting) (ms : List Meeting) (items : List Carry) (ts : List TwinsState) (d : TwinsState) → AreTwins w m.step_at ms (carried_are items) ts → m.switch_at < length ts →
     (slice_index_or ts m.switch_at d).put ≤ length items
 put_fits w m ms items ts d all inside =
-    let is : IsTwin w m.step_at ms (carried_are items) m.switch_at (slice_index_or ts m.switch_at d) = all.each m.switch_at d inside in
+    let is : IsTwinsState w m.step_at ms (carried_are items) m.switch_at (slice_index_or ts m.switch_at d) = all.each m.switch_at d inside in
     omega (arith, is.put, count_by-le-length (is_out m.switch_at (ended w m.switch_at m.step_at)) (carried_are items), length-map items carry_is)
 
 -- what is carried and what is in hand
@@ -133,13 +136,13 @@ pub in_hand : (w : Scenario) (cs : List model.Carry) (n : ℕ) (p : Packed) → 
 in_hand w cs n p h =
     (elim (model.carries cs n) as (λ (b : Bool). model.carries cs n ≡ b → b ≡ true) [
       | true ↦ λ q. refl
-      | false ↦ λ q. absurd (subst (MatchedOption (IsOf w) (Some p)) (cargo_none w cs n q) h)
+      | false ↦ λ q. absurd (subst (MatchedOption IsPacked (Some p)) (cargo_none w cs n q) h)
     ]) refl
 
 pub empty_hand : (w : Scenario) (cs : List model.Carry) (n : ℕ) → IsCargo w cs n None → model.carries cs n ≡ false
 empty_hand w cs n h =
     (elim (model.carries cs n) as (λ (b : Bool). model.carries cs n ≡ b → b ≡ false) [
-      | true ↦ λ q. absurd (let c = some_found n cs q in subst (λ (o : Option model.Carry). MatchedOption (IsOf w) None (option_map (column_of w) o)) c.1 h)
+      | true ↦ λ q. absurd (let c = some_found n cs q in subst (λ (o : Option model.Carry). MatchedOption IsPacked None (option_map (column_of w) o)) c.1 h)
       | false ↦ λ q. refl
     ]) refl
 

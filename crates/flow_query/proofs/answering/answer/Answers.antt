@@ -4,13 +4,14 @@ use Rattle.std.specs.Option.{option_map}
 use Rattle.std.proofs.Common.{sym, ap, ◌∙◌, arith, append-nil}
 use Rattle.lg_model.specs.declared.column.Bucket.{Bucket}
 use Rattle.lg_model.specs.Placing.{Shape, place, places_of}
+use Rattle.lg_model.specs.Columns.{Cells}
 use Rattle.lg_model.specs.Sketch.{bucket_in}
 use Rattle.lg_model.specs.Answer.{look_in}
 use Rattle.flow_query.specs.declared.least.Known.{Known}
 use Rattle.flow_query.specs.Least.{known_of, known_to}
 use Rattle.flow_query.proofs.Folding.{known_to-more, place_in_row}
-use Rattle.flow_query.proofs.asking.answer.Goals as goal
-use Rattle.flow_query.proofs.asking.answer.Goals.{in-Some, in_default}
+use Rattle.flow_query.proofs.answering.answer.Goals as goal
+use Rattle.flow_query.proofs.answering.answer.Goals.{in-Some, in_default}
 
 pub loop-row-preserved : goal.loop-row-preserved
 loop-row-preserved c =
@@ -23,7 +24,7 @@ loop-row-preserved c =
     let inside : row < shape.rows = omega arith in
     let its_place : c.row.result ≡ place shape f row
     = c.row.ensures ∙ ap (λ (ps : List ℕ). slice_index ps row) (c.places-places.ensures.value ∙ ap (λ (sh : Shape). places_of sh f) c.shape-shape.ensures) ∙ place_in_row shape f row inside in
-    let its_bucket = ap (λ (j : ℕ). option_map (λ (buckets : List Bucket). bucket_in buckets row) (look c.args.switch c.args.epoch j)) its_place in
+    let its_bucket = ap (λ (j : ℕ). option_map (λ (x : Cells). bucket_in x.buckets row) (look c.args.switch c.args.epoch j)) its_place in
     let more = known_to-more look shape c.args.switch c.args.epoch f row in
     elim c.match-bucket_of.branch [
       | in-Some w ↦ (

@@ -1,6 +1,5 @@
 -- The two sketches of a switch at a moment, against what it saw.
 use Rattle.std.specs.Prelude.{◌≡◌, ℕ, ◌+◌, ◌-◌, ◌<◌, ◌≤◌, List, length, count_by, replicate, slice_index, slice_index_or, slice_set, All}
-use Rattle.flow_key.specs.declared.key.FlowKey.{FlowKey}
 use Rattle.lg_model.specs.Placing.{Shape}
 use Rattle.lg_model.specs.Scenario.{Scenario, ended}
 use Rattle.lg_model.specs.Trace.{Observation, Meeting, seen_in}
@@ -9,7 +8,7 @@ use Rattle.lg_model.specs.Carrying.{Carry, is_out, times_of, Offer}
 
 -- The epoch, the current table, the one that was frozen last, how many of its columns are put out, and how often each
 -- index is. Before the first end the frozen table is of zeros and stands for none.
-pub record Twin : Type 0 where
+pub record TwinsState : Type 0 where
   pub shape : Shape
   pub epoch : ℕ
   pub current : Table
@@ -17,28 +16,25 @@ pub record Twin : Type 0 where
   pub put : ℕ
   pub times : List ℕ
 
-abbrev pub new_twin : Shape → Twin
-new_twin shape = record { shape = shape; epoch = 0; current = zero_table shape; frozen = zero_table shape; put = 0; times = replicate shape.width 0 }
-
-abbrev pub sight : FlowKey → (size delay : ℕ) → Observation
-sight key size delay = record { key = key; size = size; delay = delay }
+abbrev pub new_twins : Shape → TwinsState
+new_twins shape = record { shape = shape; epoch = 0; current = zero_table shape; frozen = zero_table shape; put = 0; times = replicate shape.width 0 }
 
 -- What a picker is offered by the twins of a switch.
-abbrev pub offer_of : Twin → Offer
+abbrev pub offer_of : TwinsState → Offer
 offer_of t = record { width = t.shape.width; put = t.put; times = t.times }
 
-abbrev pub with_seen : Twin → Observation → Twin
+abbrev pub with_seen : TwinsState → Observation → TwinsState
 with_seen t x = record t { current = raise_by t.shape t.current x }
 
-abbrev pub with_put : Twin → ℕ → Twin
+abbrev pub with_put : TwinsState → ℕ → TwinsState
 with_put t j = record t { put = t.put + 1; times = slice_set t.times j (slice_index t.times j + 1) }
 
 -- The end of an epoch: the current table is frozen, and a new one begins.
-abbrev pub with_end : Twin → Twin
+abbrev pub with_end : TwinsState → TwinsState
 with_end t = record t { epoch = t.epoch + 1; current = zero_table t.shape; frozen = t.current; put = 0; times = replicate t.shape.width 0 }
 
 -- What the twins of the switch at position s are after n steps, those meetings and those carried columns.
-pub record IsTwin (w : Scenario) (n : ℕ) (ms : List Meeting) (cs : List Carry) (s : ℕ) (t : Twin) : Type 0 where
+pub record IsTwinsState (w : Scenario) (n : ℕ) (ms : List Meeting) (cs : List Carry) (s : ℕ) (t : TwinsState) : Type 0 where
   pub shape : t.shape ≡ w.shape
   pub epoch : t.epoch ≡ ended w s n
   pub current : t.current ≡ table_of w.shape (seen_in w s (ended w s n) ms)
@@ -51,7 +47,7 @@ abbrev pub IsPast : Scenario → ℕ → Carry → Type 0
 IsPast w n c = c.epoch + 1 ≤ ended w c.switch_at n
 
 -- The twins of all switches, in the order of declaration.
-pub record AreTwins (w : Scenario) (n : ℕ) (ms : List Meeting) (cs : List Carry) (ts : List Twin) : Type 0 where
+pub record AreTwins (w : Scenario) (n : ℕ) (ms : List Meeting) (cs : List Carry) (ts : List TwinsState) : Type 0 where
   pub count : length ts ≡ length w.switches
-  pub each : (s : ℕ) (d : Twin) → s < length ts → IsTwin w n ms cs s (slice_index_or ts s d)
+  pub each : (s : ℕ) (d : TwinsState) → s < length ts → IsTwinsState w n ms cs s (slice_index_or ts s d)
   pub past : All (IsPast w n) cs

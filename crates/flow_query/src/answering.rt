@@ -13,7 +13,7 @@ use row_hash::places;
 // The bucket of a row in the column under that key, if it is kept.
 fn bucket_of(book: &Book, key: &Key, row: u8) -> Option<Bucket>
     requires { row < book.now.shape.rows }
-    ensures { result ≡ option_map (λ buckets. bucket_in buckets row) (look_in book.now.content key.now.switch key.now.epoch key.now.index) }
+    ensures { result ≡ option_map (λ cells. bucket_in cells.buckets row) (look_in book.now.content key.now.switch key.now.epoch key.now.index) }
 {
     let column = book.find(key)?;
     Some(column.bucket(row))
@@ -26,14 +26,14 @@ pub fn answer(book: &Book, switch: u16, epoch: u32, key: &FlowKey) -> Answer
 {
     let shape = book.shape();
     let places = places(&shape, key);
-    let mut known = Known::none();
+    let mut known = Known::new();
     for row in 0..shape.rows() {
-        let place = Key {
+        let column = Key {
             switch,
             epoch,
             index: places.row(row),
         };
-        if let Some(bucket) = bucket_of(book, &place, row) {
+        if let Some(bucket) = bucket_of(book, &column, row) {
             known.add(bucket);
         }
     }

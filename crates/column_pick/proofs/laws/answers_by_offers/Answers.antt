@@ -1,0 +1,5 @@
+use Rattle.column_pick.proofs.Following.{offers}
+use Rattle.column_pick.proofs.laws.answers_by_offers.Goals as goal
+
+pub returns : goal.returns
+returns c = offers
