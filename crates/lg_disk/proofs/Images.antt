@@ -123,12 +123,16 @@ module _ (s : State) (at : ℕ) (v : List ℕ) (c : List ℕ) (image : IsImage (
       ∙ ap (λ (l : List ℕ). l ++ take (at + n - k) (drop k c) ++ drop (at + n) old) (sym front)
 
   torn_from : (b : List ℕ) × IsImage s b × Torn at (length v) b c
-  torn_from = (old, was_image, record {
-    middle = take (at + n - k) (drop k c);
-    parts = joined;
-    no_shorter = omega (arith, old_size, bounds.0);
-    no_longer = omega (arith, old_size, bounds.1);
-  })
+  torn_from = (
+    old,
+    was_image,
+    record {
+      middle = take (at + n - k) (drop k c);
+      parts = joined;
+      no_shorter = omega (arith, old_size, bounds.0);
+      no_longer = omega (arith, old_size, bounds.1);
+    },
+  )
 
 -- What a cut leaves was there, or more of it.
 module _ (s : State) (len : ℕ) (c : List ℕ) (image : IsImage (step s (Cut len)) c) (some : s.least ≤ s.greatest) where

@@ -15,9 +15,11 @@ mod bytes;
 mod call;
 mod choice;
 mod disk;
+mod file_disk;
 mod memory_disk;
 mod replay;
 
 pub use choice::Choice;
 pub use disk::Disk;
+pub use file_disk::FileDisk;
 pub use memory_disk::MemoryDisk;

@@ -275,3 +275,115 @@ impl Disk for MemoryDisk {
         self.faults.count()
     }
 }
+
+#[cfg(test)]
+mod tests {
+    use super::*;
+    use std::test::Fail;
+
+    // One of ten calls of a day with a file.
+    fn make_call<D: Disk>(disk: &mut D, number: u32) -> Result<(), Failed> {
+        match number {
+            0 => disk.len().map(|_| ()),
+            1 => disk.write_at(0, b"epoch 1\n"),
+            3 => disk.write_at(8, b"epoch 2\n"),
+            4 => disk.read_at(0, &mut [0; 8]).map(|_| ()),
+            6 => disk.cut(8),
+            8 => disk.write_at(8, b"epoch 3\n"),
+            _ => disk.sync(),
+        }
+    }
+
+    #[test]
+    fn stops_after_each_of_ten_calls(rt: HostRuntime) -> Result<(), Fail> {
+        let half = "epoch 1\nepoc";
+        let two = "epoch 1\nepoch 2\n";
+        let three = "epoch 1\nepoch 3\n";
+        for (k, read, synced) in [
+            (0, "epoc", ""),
+            (1, "epoc", ""),
+            (2, half, ""),
+            (3, half, "epoch 1\n"),
+            (4, two, "epoch 1\n"),
+            (5, two, "epoch 1\n"),
+            (6, two, two),
+            (7, half, two),
+            (8, half, "epoch 1\n"),
+            (9, three, "epoch 1\n"),
+            (10, three, three),
+        ] {
+            let mut disk = MemoryDisk::new(rt.alloc(), Vec::new(rt.alloc()))?;
+            disk.stop_after(k);
+            for number in 0..10 {
+                let want = if number < k { Ok(()) } else { Err(Failed) };
+                assert_eq!(rt; make_call(&mut disk, number), want, "call {number} of {k}");
+            }
+            assert_eq!(rt; disk.fault_count(), u64::from(10 - k));
+            assert_eq!(rt; disk.starved(), 0);
+            assert_eq!(rt; disk.bytes(), read.as_bytes(), "stopped after {k}");
+            let image = disk.image(&Choice::AsSynced)?;
+            assert_eq!(rt; image.as_slice(), synced.as_bytes(), "stopped after {k}");
+        }
+        Ok(())
+    }
+
+    #[test]
+    fn gives_its_crash_images(rt: HostRuntime) -> Result<(), Fail> {
+        let mut disk = MemoryDisk::new(rt.alloc(), b"abcdef".to_vec(rt.alloc())?)?;
+        disk.fail([4u32, 6].to_vec(rt.alloc())?);
+        for (call, read, synced, long, short) in [
+            (0, "abXYef", "abcdef", "ab??ef", "ab??ef"),
+            (1, "abXYef", "abXYef", "abXYef", "abXYef"),
+            (2, "abXYefghi", "abXYef", "abXYef???", "abXYef"),
+            (3, "abXY", "abXYef", "abXYef???", "abXY"),
+            // A sync that fails, and a write of which a half is put.
+            (4, "abXY", "abXYef", "abXYef???", "abXY"),
+            (5, "a__Y", "abXYef", "a??Yef???", "a??Y"),
+            (6, "a_zY", "abXYef", "a??Yef???", "a??Y"),
+            (7, "a_zY", "a_zY", "a_zY", "a_zY"),
+        ] {
+            let told = match call {
+                0 => disk.write_at(2, b"XY"),
+                2 => disk.write_at(6, b"ghi"),
+                3 => disk.cut(4),
+                5 => disk.write_at(1, b"__"),
+                6 => disk.write_at(2, b"zZZ"),
+                _ => disk.sync(),
+            };
+            assert_eq!(rt; told.is_err(), call == 4 || call == 6);
+            assert_eq!(rt; disk.bytes(), read.as_bytes());
+            for (choice, want) in [
+                (Choice::AsRead, read),
+                (Choice::AsSynced, synced),
+                (Choice::FillLong(b'?'), long),
+                (Choice::FillShort(b'?'), short),
+            ] {
+                let image = disk.image(&choice)?;
+                assert_eq!(rt;
+                    image.as_slice(),
+                    want.as_bytes(),
+                    "{choice:?} after call {call}"
+                );
+            }
+        }
+        Ok(())
+    }
+
+    #[test]
+    fn appends_thousands_of_records(rt: HostRuntime) -> Result<(), Fail> {
+        let mut disk = MemoryDisk::new(rt.alloc(), Vec::new(rt.alloc()))?;
+        for i in 0..3000 {
+            disk.write_at(20 * i, b"0 column 1 of flow 2")?;
+            disk.sync()?;
+            disk.write_at(20 * i, b"1")?;
+            disk.sync()?;
+        }
+        let mut buf = [0; 40];
+        assert_eq!(rt; disk.len(), Ok(60_000));
+        assert_eq!(rt; disk.read_at(59_980, &mut buf), Ok(20));
+        assert_eq!(rt; &buf[..20], b"1 column 1 of flow 2".as_slice());
+        assert_eq!(rt; disk.read_at(60_000, &mut buf), Ok(0));
+        assert_eq!(rt; disk.fault_count(), 0);
+        Ok(())
+    }
+}
