@@ -13,4 +13,4 @@ IsToFail f = Contains f.listed f.calls
 
 -- the same list, after one call more
 abbrev pub after_call : FailingCalls → FailingCalls
-after_call f = record { listed = f.listed; calls = one_more f.calls }
+after_call f = record f { calls = one_more f.calls }

@@ -27,6 +27,20 @@ impl Failing {
         Failing { listed, calls: 0 }
     }
 
+    /// From now on these calls are to fail, and no others. Their numbers count the calls made already.
+    pub fn list(&mut self, listed: Vec<u32>)
+        ensures { self.new ≡ record self.old { listed = listed.items } }
+    {
+        self.listed = listed;
+    }
+
+    /// How many calls there were, up to 2^64 - 1. It is the number of the next one.
+    pub fn calls(&self) -> u64
+        ensures { result ≡ self.now.calls }
+    {
+        self.calls
+    }
+
     /// Whether this call is to fail. Counts it.
     pub fn fails_next(&mut self) -> bool
         ensures fails { IsTrue result ↔ IsToFail self.old }

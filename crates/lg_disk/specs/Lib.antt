@@ -1,0 +1,5 @@
+pub mod Disk
+pub mod Model
+pub mod Laws
+pub mod Memory
+pub mod Choices
