@@ -85,9 +85,10 @@ met_packets n k (p ∷ ps) all =
 pub met : (w : Scenario) → IsScenario w → All (λ (m : Meeting). m.switch_at < length w.switches) (meetings w)
 met w is = met_packets (length w.switches) 0 (packets w) (guided_steps (length w.hosts) (length w.switches) 0 w.flows w.steps is.flows is.steps)
 
--- and an entry of an allowed list names one, of an epoch that ended
+-- and an entry of an allowed list names one, of an epoch that ended, and an index below the width
 pub record IsPlaced (w : Scenario) (c : Carry) : Type 0 where
   pub declared : c.switch_at < length w.switches
+  pub index : c.index < w.shape.width
   pub ended : c.epoch < ended w c.switch_at (length w.steps)
 
 ended_in_all : (w : Scenario) (s n : ℕ) → ended w s n ≤ ended w s (length w.steps)
@@ -105,6 +106,7 @@ placed_by w c ms all any =
     let before : ended w c.switch_at m.step_at ≡ c.epoch + 1 = ap (λ s. ended w s m.step_at) (sym is.switch) ∙ is.epoch in
     record {
       declared = subst (λ s. s < length w.switches) is.switch low;
+      index = is.index;
       ended = omega (arith, before, ended_in_all w c.switch_at m.step_at);
     }
 
