@@ -1,18 +1,37 @@
 //! Fault lines (docs/FORMATS.md, Fault lines and exit statuses).
-ghost use Rattle.std.specs.Prelude.{◌≡◌, ◌≤◌, IfOk};
-ghost use Rattle.lg_base.specs.Causes.{Rose};
-ghost use Rattle.guardian_run.specs.Top.{scenario_line, WritesLine};
+ghost use Rattle.std.specs.Prelude.{◌≡◌, IfOk};
+ghost use Rattle.guardian_run.specs.Lines as lines;
 
-use crate::status::Status;
-use lg_base::{Memory, Sink, put_all};
+use lg_base::Memory;
 use report_text::{put_number, put_text};
 use scenario_text::Why;
 use std::alloc::Global;
 
+/// The line of words that are no command.
+pub fn usage_line() -> &'static [u8]
+    ensures { result.now ≡ lines.usage_line }
+{
+    b"guardian: usage: guardian run, ask, list, rebuild S E, capture, make N, demo N\n"
+}
+
+/// The line of a source that failed.
+pub fn read_fault_line() -> &'static [u8]
+    ensures { result.now ≡ lines.read_fault_line }
+{
+    b"guardian: read fault\n"
+}
+
+/// The line of want of memory.
+pub fn no_memory_line() -> &'static [u8]
+    ensures { result.now ≡ lines.no_memory_line }
+{
+    b"guardian: no memory\n"
+}
+
 /// The line of a scenario text that is refused. Memory where there is none for it.
-#[tactic(auto, unfolding(crate::specs::Top::scenario_line))]
-pub fn scenario_fault(alloc: Global, line: u32, why: Why) -> Result<Vec<u8>, Memory>
-    ensures { IfOk result (λ text. text.items ≡ scenario_line (line, why)) }
+#[tactic(auto, unfolding(crate::specs::Lines::scenario_line))]
+pub fn scenario_line(alloc: Global, line: u32, why: Why) -> Result<Vec<u8>, Memory>
+    ensures { IfOk result (λ text. text.items ≡ lines.scenario_line line why) }
 {
     let mut text = Vec::new(alloc);
     put_text(&mut text, b"guardian: scenario line ")?;
@@ -21,14 +40,4 @@ pub fn scenario_fault(alloc: Global, line: u32, why: Why) -> Result<Vec<u8>, Mem
     put_text(&mut text, why.text())?;
     put_text(&mut text, b"\n")?;
     Ok(text)
-}
-
-/// Writes a fault line, and answers its status, which stays where the sink fails.
-pub fn refuse<K: Sink>(sink: &mut K, line: &[u8], status: Status) -> Status
-    ensures status { result ≡ status }
-    ensures line { WritesLine (K.written sink.old) (K.written sink.new) (K.faults sink.old) (K.faults sink.new) line.now }
-    ensures never_falls { K.faults sink.old ≤ K.faults sink.new }
-{
-    let _ = put_all(sink, line);
-    status
 }
