@@ -12,7 +12,7 @@ use Rattle.guardian_run.specs.declared.status.Status.{Status}
 use Rattle.guardian_run.specs.declared.status.Status.TheVariants as status
 use Rattle.guardian_run.specs.Changes.{Change, HasFailed, IsUntouched}
 use Rattle.guardian_run.specs.Commands.{HasOutput, HasCause, IsRefused}
-use Rattle.guardian_run.specs.Lines.{usage_line, read_fault_line, no_memory_line, scenario_line}
+use Rattle.report_text.specs.Faults.{usage_line, read_fault_line, no_memory_line, scenario_line}
 use Rattle.guardian_run.specs.Ends.{IsOutputEnd, IsRead, Answers, Says, Wrote, Draws, Puts, Ends}
 use Rattle.guardian_run.specs.Ending.{EndsWith, EndsAt, EndsRefused}
 
@@ -81,12 +81,12 @@ ends_output command source sink s text has end = elim end.0 as (λ _. Ends (Some
 -- ---- a refusal
 
 at_bad_scenario : (command : Command) (source sink : Change) (n : ℕ) (why : Why) → IsRefused source (refusals.BadScenario n why) →
-    Puts status.BadScenario sink (scenario_line n why) → Ends (Some command) source sink status.BadScenario
+    Puts status.BadScenario sink (scenario_line (n, why)) → Ends (Some command) source sink status.BadScenario
 at_bad_scenario command source sink n why is puts =
     let cause = both source.old (λ input. reading input ≡ Err (n, why)) (λ input. IsTaken input source.new) is.cause in
     record {
       said = Err (n, why);
-      text = scenario_line n why;
+      text = scenario_line (n, why);
       input = cause.0;
       answers = record {
         words = search rules;
@@ -155,7 +155,7 @@ ends_refused : (command : Command) (source sink : Change) (s : Status) (refusal 
     Ends (Some command) source sink s
 ends_refused command source sink s refusals.BadWords is end = absurd is.cause
 ends_refused command source sink s (refusals.BadScenario n why) is (inl end) =
-    at_status (Some command) source sink status.BadScenario s (scenario_line n why) (at_bad_scenario command source sink n why is) end
+    at_status (Some command) source sink status.BadScenario s (scenario_line (n, why)) (at_bad_scenario command source sink n why is) end
 ends_refused command source sink s (refusals.BadScenario n why) is (inr end) = starved command source sink s (refusals.BadScenario n why) is end.1
 ends_refused command source sink s refusals.ReadFault is (inl end) =
     at_status (Some command) source sink status.ReadFault s read_fault_line (at_read_fault command source sink is) end

@@ -18,7 +18,7 @@ use Rattle.lg_model.proofs.Tracing.{enumerate_from-append}
 use Rattle.sketchlet_wire.specs.declared.packed.Packed.{Packed}
 use Rattle.sketchlet_wire.specs.Packing.{IsPacked}
 use Rattle.sketchlet_wire.specs.Spelling.{spelling}
-use Rattle.report_text.specs.Lines.{hex_line}
+use Rattle.report_text.specs.Capture.{hex_line}
 use Rattle.guardian_run.specs.Outputs.{column_lines, host_lines}
 
 -- for a place that no column has

@@ -5,7 +5,7 @@ use Rattle.guardian_run.specs.declared.refusal.Refusal.TheVariants as refusals
 use Rattle.guardian_run.specs.declared.status.Status.{Status}
 use Rattle.guardian_run.specs.declared.status.Status.TheVariants as status
 use Rattle.guardian_run.specs.Changes.{Change}
-use Rattle.guardian_run.specs.Lines.{no_memory_line}
+use Rattle.report_text.specs.Faults.{no_memory_line}
 use Rattle.guardian_run.specs.Refusals.{status_of, line_of}
 use Rattle.guardian_run.specs.Ends.{IsOutputEnd, Puts}
 

@@ -8,7 +8,7 @@ use Rattle.run_laws.specs.Truth.{IsTrueRun}
 use Rattle.guardian_run.specs.declared.status.Status.{Status}
 use Rattle.guardian_run.specs.declared.status.Status.TheVariants as status
 use Rattle.guardian_run.specs.Changes.{Change, HasFailed, IsUntouched, WritesAll, WritesFront, WritesSome}
-use Rattle.guardian_run.specs.Lines.{usage_line, read_fault_line, no_memory_line, scenario_line}
+use Rattle.report_text.specs.Faults.{usage_line, read_fault_line, no_memory_line, scenario_line}
 use Rattle.guardian_run.specs.Outputs.{output_of}
 
 -- ---- kinds of ends
@@ -61,7 +61,7 @@ pub record IsOutput (asked : Option Command) (said : Result Scenario Fault) (tex
 pub record IsFaultLine (said : Result Scenario Fault) (text : List ℕ) : Type 0 where
   pub fault : Fault
   pub said_is : said ≡ Err fault
-  pub line : text ≡ scenario_line fault.0 fault.1
+  pub line : text ≡ scenario_line fault
 
 -- Which text is written at each status.
 abbrev pub Says : (asked : Option Command) → (said : Result Scenario Fault) → Status → (text : List ℕ) → Type 0

@@ -1,6 +1,5 @@
 pub mod Statuses
 pub mod Changes
-pub mod Lines
 pub mod Outputs
 pub mod Commands
 pub mod Refusals

@@ -6,9 +6,9 @@ use Rattle.lg_model.specs.Scenario.{Scenario}
 use Rattle.lg_model.specs.Carrying.{picked}
 use Rattle.lg_model.specs.Arriving.{brought, brought_to_all}
 use Rattle.lg_model.specs.Columns.{Column}
-use Rattle.lg_model.specs.Report.{report}
+use Rattle.report_text.specs.Report.{report}
 use Rattle.sketchlet_wire.specs.Spelling.{spelling}
-use Rattle.report_text.specs.Lines.{hex_line, sketchlets_line}
+use Rattle.report_text.specs.Capture.{hex_line, sketchlets_line}
 use Rattle.guardian_words.specs.declared.commands.Command.{Command}
 use Rattle.guardian_words.specs.declared.commands.Command.TheVariants.{Run, Capture}
 use Rattle.run_laws.specs.Truth.{book_of}

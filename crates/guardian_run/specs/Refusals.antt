@@ -4,7 +4,7 @@ use Rattle.guardian_run.specs.declared.refusal.Refusal.{Refusal}
 use Rattle.guardian_run.specs.declared.refusal.Refusal.TheVariants as refusals
 use Rattle.guardian_run.specs.declared.status.Status.{Status}
 use Rattle.guardian_run.specs.declared.status.Status.TheVariants as status
-use Rattle.guardian_run.specs.Lines.{usage_line, read_fault_line, no_memory_line, scenario_line}
+use Rattle.report_text.specs.Faults.{usage_line, read_fault_line, no_memory_line, scenario_line}
 
 -- The status of a refusal.
 abbrev pub status_of : Refusal → Status
@@ -16,6 +16,6 @@ status_of refusals.Memory = status.NoMemory
 -- And its line.
 abbrev pub line_of : Refusal → List ℕ
 line_of refusals.BadWords = usage_line
-line_of (refusals.BadScenario n why) = scenario_line n why
+line_of (refusals.BadScenario n why) = scenario_line (n, why)
 line_of refusals.ReadFault = read_fault_line
 line_of refusals.Memory = no_memory_line

@@ -3,10 +3,10 @@ ghost use Rattle.std.specs.Prelude.{◌≡◌, ◌≤◌, IfOk, IfErr};
 ghost use Rattle.guardian_run.specs.Changes.{change, WritesSome};
 ghost use Rattle.guardian_run.specs.Ending.{EndsWith, EndsRefused};
 
-use crate::lines::{no_memory_line, read_fault_line, scenario_line, usage_line};
 use crate::refusal::Refusal;
 use crate::status::Status;
 use lg_base::{Sink, put_all};
+use report_text::{no_memory_line, read_fault_line, scenario_line, usage_line};
 use std::alloc::Global;
 
 // Writes an output: `Ok`, or `WriteFault` where the sink fails.

@@ -12,7 +12,6 @@
 
 mod capture;
 mod ending;
-mod lines;
 mod refusal;
 mod run;
 mod status;

@@ -12,6 +12,5 @@ pub mod TwinsState
 pub mod Offering
 pub mod Runs
 pub mod Answer
-pub mod Report
 pub mod Settled
 pub mod Worked
