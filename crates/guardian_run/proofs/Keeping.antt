@@ -17,40 +17,32 @@ use Rattle.lg_model.proofs.Pairing.{matched_at, matched_length}
 use Rattle.lg_model.proofs.Tracing.{enumerate_from-append}
 use Rattle.sketchlet_wire.specs.declared.packed.Packed.{Packed}
 use Rattle.sketchlet_wire.specs.Packing.{IsPacked}
-use Rattle.sketchlet_wire.specs.Spelling.{ColumnData, spelling}
-use Rattle.sketchlet_wire.specs.Carried.{column_data, dims_of}
+use Rattle.sketchlet_wire.specs.Spelling.{spelling}
 use Rattle.report_text.specs.Capture.{hex_line}
-use Rattle.guardian_run.specs.Outputs.{host_lines}
+use Rattle.guardian_run.specs.Outputs.{column_lines, host_lines}
 
 -- for a place that no column has
 abbrev pub no_column : Column
-no_column = record { key = record { switch = 0; epoch = 0; index = 0 }; buckets = [] }
+no_column = record { key = record { switch = 0; epoch = 0; index = 0 }; dims = record { rows = 0; width = 0 }; cells = record { buckets = [] } }
 
 abbrev pub no_packed : Packed
 no_packed = record { len = 0; bytes = [] }
 
--- the column at a place of what came to a host
-abbrev pub column_in : Scenario → (host_at i : ℕ) → Column
-column_in w h i = slice_index_or (brought w (picked w) h) i no_column
-
-pub packed_is : (w : Scenario) (h i : ℕ) (arrived : List Packed) → Matched IsPacked arrived (brought w (picked w) h) → i < length arrived →
-    IsPacked (slice_index_or arrived i no_packed) (column_data (dims_of w.shape) (column_in w h i))
-packed_is w h i arrived all inside = matched_at IsPacked arrived (brought w (picked w) h) i no_packed no_column all inside
+pub packed_is : (ps : List Packed) (cs : List Column) (i : ℕ) → Matched IsPacked ps cs → i < length ps →
+    IsPacked (slice_index_or ps i no_packed) (slice_index_or cs i no_column)
+packed_is ps cs i all inside = matched_at IsPacked ps cs i no_packed no_column all inside
 
 -- one column more is kept
-pub kept_more : (w : Scenario) (h i : ℕ) (arrived : List Packed) (start old new : Content) (c : ColumnData) → Matched IsPacked arrived (brought w (picked w) h) → i < length arrived →
-    c ≡ column_data (dims_of w.shape) (column_in w h i) → old ≡ fold with_column start (take i (brought w (picked w) h)) → new ≡ with_column old (record { key = c.key; buckets = c.buckets }) →
-    new ≡ fold with_column start (take (i + 1) (brought w (picked w) h))
-kept_more w h i arrived start old new c all inside is before kept =
-    let bs = brought w (picked w) h in
-    let low : i < length bs = omega (arith, matched_length IsPacked arrived bs all) in
-    kept ∙ (λ j. with_column (before j) (record { key = (is j).key; buckets = (is j).buckets })) ∙ sym (fold_more with_column start bs i no_column low)
+pub kept_more : (ps : List Packed) (cs : List Column) (i : ℕ) (start old new : Content) (c : Column) → Matched IsPacked ps cs → i < length ps →
+    c ≡ slice_index_or cs i no_column → old ≡ fold with_column start (take i cs) → new ≡ with_column old c → new ≡ fold with_column start (take (i + 1) cs)
+kept_more ps cs i start old new c all inside is before kept =
+    let low : i < length cs = omega (arith, inside, matched_length IsPacked ps cs all) in
+    kept ∙ (λ j. with_column (before j) (is j)) ∙ sym (fold_more with_column start cs i no_column low)
 
-pub kept_all : (w : Scenario) (h i : ℕ) (arrived : List Packed) (start now : Content) → Matched IsPacked arrived (brought w (picked w) h) → i ≡ length arrived →
-    now ≡ fold with_column start (take i (brought w (picked w) h)) → now ≡ fold with_column start (brought w (picked w) h)
-kept_all w h i arrived start now all end is =
-    let bs = brought w (picked w) h in
-    is ∙ ap (fold with_column start) (take_all i bs (omega (arith, matched_length IsPacked arrived bs all)))
+pub kept_all : (ps : List Packed) (cs : List Column) (i : ℕ) (start now : Content) → Matched IsPacked ps cs → i ≡ length ps →
+    now ≡ fold with_column start (take i cs) → now ≡ fold with_column start cs
+kept_all ps cs i start now all end is =
+    is ∙ ap (fold with_column start) (take_all i cs (omega (arith, end, matched_length IsPacked ps cs all)))
 
 -- one host more
 range_more : (n : ℕ) → range_with_len 0 (n + 1) ≡ range_with_len 0 n ++ n ∷ []
@@ -72,25 +64,21 @@ content_more w n old new before is =
     ∙ sym (ap content_of (brought_more w n) ∙ fold-append with_column [] (flat_map (brought w (picked w)) (range_with_len 0 n)) (brought w (picked w) n))
 
 -- one line more
-pub hex_more : (w : Scenario) (h i name : ℕ) (arrived : List Packed) (start old new bytes : List ℕ) → Matched IsPacked arrived (brought w (picked w) h) → i < length arrived →
-    bytes ≡ spelling (column_data (dims_of w.shape) (column_in w h i)) →
-    old ≡ start ++ flat_map (λ (c : Column). hex_line name (spelling (column_data (dims_of w.shape) c))) (take i (brought w (picked w) h)) → new ≡ old ++ hex_line name bytes →
-    new ≡ start ++ flat_map (λ (c : Column). hex_line name (spelling (column_data (dims_of w.shape) c))) (take (i + 1) (brought w (picked w) h))
-hex_more w h i name arrived start old new bytes all inside is before put =
-    let bs = brought w (picked w) h in
-    let f : Column → List ℕ = λ c. hex_line name (spelling (column_data (dims_of w.shape) c)) in
-    let low : i < length bs = omega (arith, matched_length IsPacked arrived bs all) in
-    let more : flat_map f (take (i + 1) bs) ≡ flat_map f (take i bs) ++ f (column_in w h i) =
-    ap (flat_map f) (take_more bs i no_column low) ∙ flat_map-append f (take i bs) (column_in w h i ∷ []) ∙ ap (λ xs. flat_map f (take i bs) ++ xs) (append-nil (f (column_in w h i))) in
-    put ∙ (λ j. before j ++ hex_line name (is j)) ∙ append_assoc start (flat_map f (take i bs)) (f (column_in w h i)) ∙ ap (λ xs. start ++ xs) (sym more)
+pub hex_more : (ps : List Packed) (cs : List Column) (i name : ℕ) (start old new bytes : List ℕ) → Matched IsPacked ps cs → i < length ps →
+    bytes ≡ spelling (slice_index_or cs i no_column) → old ≡ start ++ column_lines name (take i cs) → new ≡ old ++ hex_line name bytes →
+    new ≡ start ++ column_lines name (take (i + 1) cs)
+hex_more ps cs i name start old new bytes all inside is before put =
+    let f : Column → List ℕ = λ c. hex_line name (spelling c) in
+    let c = slice_index_or cs i no_column in
+    let low : i < length cs = omega (arith, inside, matched_length IsPacked ps cs all) in
+    let more : column_lines name (take (i + 1) cs) ≡ column_lines name (take i cs) ++ f c =
+    ap (flat_map f) (take_more cs i no_column low) ∙ flat_map-append f (take i cs) (c ∷ []) ∙ ap (λ xs. flat_map f (take i cs) ++ xs) (append-nil (f c)) in
+    put ∙ (λ j. before j ++ hex_line name (is j)) ∙ append_assoc start (column_lines name (take i cs)) (f c) ∙ ap (λ xs. start ++ xs) (sym more)
 
-pub hex_all : (w : Scenario) (h i name : ℕ) (arrived : List Packed) (start now : List ℕ) → Matched IsPacked arrived (brought w (picked w) h) → i ≡ length arrived →
-    now ≡ start ++ flat_map (λ (c : Column). hex_line name (spelling (column_data (dims_of w.shape) c))) (take i (brought w (picked w) h)) →
-    now ≡ start ++ flat_map (λ (c : Column). hex_line name (spelling (column_data (dims_of w.shape) c))) (brought w (picked w) h)
-hex_all w h i name arrived start now all end is =
-    let bs = brought w (picked w) h in
-    let f : Column → List ℕ = λ c. hex_line name (spelling (column_data (dims_of w.shape) c)) in
-    is ∙ ap (λ (xs : List Column). start ++ flat_map f xs) (take_all i bs (omega (arith, matched_length IsPacked arrived bs all)))
+pub hex_all : (ps : List Packed) (cs : List Column) (i name : ℕ) (start now : List ℕ) → Matched IsPacked ps cs → i ≡ length ps →
+    now ≡ start ++ column_lines name (take i cs) → now ≡ start ++ column_lines name cs
+hex_all ps cs i name start now all end is =
+    is ∙ ap (λ (xs : List Column). start ++ column_lines name xs) (take_all i cs (omega (arith, end, matched_length IsPacked ps cs all)))
 
 -- the lines of one host more
 pub lines_more : (w : Scenario) (n : ℕ) (d : HostLine) (old new : List ℕ) → n < length w.hosts → old ≡ flat_map (host_lines w) (enumerate_from 0 (take n w.hosts)) →

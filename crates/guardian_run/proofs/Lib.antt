@@ -1,4 +1,2 @@
 pub mod Keeping
-pub mod Found
-pub mod Brought
-pub mod True
+pub mod EndLemmas

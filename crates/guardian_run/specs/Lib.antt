@@ -1,4 +1,7 @@
 pub mod Statuses
+pub mod Changes
 pub mod Outputs
-pub mod Top
-pub mod Truth
+pub mod Commands
+pub mod Refusals
+pub mod Ends
+pub mod Ending

@@ -1,18 +1,23 @@
-//! The sketchlets that came to the hosts, as text.
-ghost use Rattle.std.specs.Prelude.{◌≡◌, ◌<◌, ◌≤◌, ◌+◌, ◌++◌, ◌^◌, length, slice_index_or, IfOk};
+//! The command `capture`: the sketchlets that came to the hosts, as text.
+ghost use Rattle.std.specs.Prelude.{◌≡◌, ◌<◌, ◌≤◌, ◌+◌, ◌++◌, ◌^◌, length, slice_index_or, IfOk, IfErr};
 ghost use Rattle.lg_model.specs.Matching.{Matched};
 ghost use Rattle.lg_model.specs.Carrying.{picked};
 ghost use Rattle.lg_model.specs.Arriving.{brought};
 ghost use Rattle.lg_model.specs.declared.scenario.HostLine.{HostLine};
 ghost use Rattle.sketchlet_wire.specs.Packing.{IsPacked};
 ghost use Rattle.path_sim.specs.Arrived.{HaveArrived};
+ghost use Rattle.guardian_run.specs.Changes.{change};
+ghost use Rattle.guardian_run.specs.Commands.{HasOutput, IsRefused};
 ghost use Rattle.guardian_run.specs.Outputs.{host_lines, capture_of};
 
-use lg_base::Memory;
+use crate::refusal::Refusal;
+use guardian_words::Command;
+use lg_base::{Memory, Source};
 use lg_model::HostLine;
-use path_sim::Arrivals;
+use path_sim::{Arrivals, run_own};
 use report_text::{put_hex_line, put_sketchlets_line};
-use scenario_text::Scenario;
+use run_laws::runs_are_true;
+use scenario_text::{Scenario, read};
 use sketchlet_wire::Packed;
 use std::alloc::Global;
 
@@ -33,8 +38,12 @@ fn put_host(
     Ok(())
 }
 
-/// The lines of all that came to the hosts, host after host, and how many they are. Memory where there is none for them.
-pub fn capture(alloc: Global, scenario: &Scenario, arrivals: &Arrivals) -> Result<Vec<u8>, Memory>
+// The lines of all that came to the hosts, host after host, and how many they are. Memory where there is none for them.
+fn capture_lines(
+    alloc: Global,
+    scenario: &Scenario,
+    arrivals: &Arrivals,
+) -> Result<Vec<u8>, Memory>
     requires { HaveArrived scenario.now (picked scenario.now) arrivals.now.inboxes }
     ensures { IfOk result (λ text. text.items ≡ capture_of scenario.now) }
 {
@@ -47,5 +56,20 @@ pub fn capture(alloc: Global, scenario: &Scenario, arrivals: &Arrivals) -> Resul
         count += arrived.len();
     }
     put_sketchlets_line(&mut text, count)?;
+    Ok(text)
+}
+
+/// Reads a scenario from the source, runs its network and gives the lines of the sketchlets that came to the hosts.
+///
+/// `BadScenario` where the input is no scenario text, `ReadFault` only where the source's count of faults rose in this
+/// call or stands at its last value, `Memory` where no memory was found.
+pub fn capture<S: Source>(alloc: Global, source: &mut S) -> Result<Vec<u8>, Refusal>
+    ensures output { IfOk result (λ text. HasOutput Command.Capture (change S.left S.faults source.old source.new) text.items) }
+    ensures refused { IfErr result (IsRefused (change S.left S.faults source.old source.new)) }
+{
+    let scenario = read(alloc, source)?;
+    let arrivals = run_own(alloc, &scenario)?;
+    let text = capture_lines(alloc, &scenario, &arrivals)?;
+    runs_are_true();
     Ok(text)
 }

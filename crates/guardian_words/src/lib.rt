@@ -6,8 +6,8 @@
 //! | [`command`] | the command of some words |
 #![tactic(auto)]
 
-mod asked;
+mod commands;
 mod words;
 
-pub use asked::Command;
+pub use commands::Command;
 pub use words::command;

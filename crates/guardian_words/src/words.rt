@@ -1,12 +1,12 @@
-//! The command of the words behind the program's name.
-ghost use Rattle.std.specs.Prelude.{◌≡◌, map, string_bytes};
-ghost use Rattle.guardian_words.specs.Words.{command_of};
+//! The command of the words after the program's name.
+ghost use Rattle.std.specs.Prelude.{◌≡◌};
+ghost use Rattle.guardian_words.specs.Words.{asked};
 
-use crate::asked::Command;
+use crate::commands::Command;
 
 /// The command of these words. None exactly where they are not one of `run` and `capture` alone. Takes no memory.
 pub fn command(words: &[String]) -> Option<Command>
-    ensures { result ≡ command_of (map (λ w. string_bytes w) words.now) }
+    ensures { result ≡ asked words.now }
 {
     match words {
         [word] => {

@@ -1,5 +1,5 @@
 -- What a run's output says of what happened in the network.
-use Rattle.std.specs.Prelude.{◌≡◌, ◌≢◌, ℕ, ◌<◌, ◌↔◌, length, All, slice_index}
+use Rattle.std.specs.Prelude.{◌≡◌, ◌≢◌, ℕ, ◌<◌, ◌↔◌, List, length, All, AllPairs, slice_index}
 use Rattle.flow_key.specs.declared.key.FlowKey.{FlowKey}
 use Rattle.lg_model.specs.declared.column.Key.{Key}
 use Rattle.lg_model.specs.declared.scenario.Ask.{Ask}
@@ -8,23 +8,33 @@ use Rattle.lg_model.specs.Scenario.{Scenario, flow_at, ended}
 use Rattle.lg_model.specs.Sketch.{frozen_cells}
 use Rattle.lg_model.specs.Carrying.{picked, IsAllowed}
 use Rattle.lg_model.specs.Arriving.{brought_to_all}
-use Rattle.lg_model.specs.Columns.{Column}
-use Rattle.lg_model.specs.Answer.{look_in, answered}
-use Rattle.lg_model.specs.Bound.{IsTrueAnswer}
+use Rattle.lg_model.specs.Columns.{Column, dims_of}
+use Rattle.lg_model.specs.Answer.{Content, content_of, look_in, answered}
+use Rattle.lg_model.specs.Bound.{Agrees, IsTrueAnswer}
 use Rattle.flow_query.specs.Told.{IsExact}
-use Rattle.guardian_run.specs.Outputs.{book_of}
+use Rattle.scenario_parts.specs.Whole.{IsWhole}
+
+-- The content of the book after the run: all brought columns of the picked list.
+abbrev pub book_of : Scenario → Content
+book_of w = content_of (brought_to_all w (picked w))
 
 -- The position of the switch of that name. Names are apart, so there is no other.
 pub record IsSwitch (w : Scenario) (name s : ℕ) : Type 0 where
   pub declared : s < length w.switches
   pub named : slice_index w.switches s ≡ name
 
--- A column is the one that its switch froze, at the end of an epoch that ended in the scenario.
+-- A column is the one that its switch froze, at an index below the width and the end of an epoch that ended in the scenario.
 pub record IsFrozen (w : Scenario) (c : Column) : Type 0 where
   pub switch_at : ℕ
   pub switch : IsSwitch w c.key.switch switch_at
   pub ended : c.key.epoch < ended w switch_at (length w.steps)
-  pub buckets : c.buckets ≡ column w switch_at c.key.epoch c.key.index
+  pub index : c.key.index < w.shape.width
+  pub dims : c.dims ≡ dims_of w.shape
+  pub cells : c.cells ≡ frozen_cells w switch_at c.key.epoch c.key.index
+
+-- Columns of one key are equal: which of them a book keeps makes no difference.
+abbrev pub IsOneEach : List Column → Type 0
+IsOneEach cs = AllPairs (λ (a b : Column). a.key ≡ b.key → a ≡ b) cs
 
 -- The flow that is asked about.
 abbrev pub asked_key : Scenario → Ask → FlowKey
@@ -48,8 +58,15 @@ pub record IsTrueOf (w : Scenario) (q : Ask) : Type 0 where
   pub unknown : (answered (book_of w) w q).rows_known ≡ 0 ↔ NoneArrived w q
   pub exact : IsExact (look_in (book_of w)) w.shape q.switch q.epoch (asked_key w q) (answered (book_of w) w q)
 
--- What packets carry is allowed, each column that came to a host is its switch's frozen one, and each answer is true.
+-- What packets carry is allowed; each column that came to a host is its switch's frozen one, and those of one key are
+-- equal; the book agrees with what each switch froze; and each answer is true.
 pub record IsTrueRun (w : Scenario) : Type 0 where
   pub allowed : IsAllowed w (picked w)
   pub frozen : All (IsFrozen w) (brought_to_all w (picked w))
+  pub one_each : IsOneEach (brought_to_all w (picked w))
+  pub agrees : (name s e : ℕ) → IsSwitch w name s → Agrees (look_in (book_of w)) w name s e
   pub answers : All (IsTrueOf w) w.asks
+
+-- The law of true runs: so it is for every scenario.
+abbrev pub LawOfTrueRuns : Type 0
+LawOfTrueRuns = (w : Scenario) → IsWhole w → IsTrueRun w

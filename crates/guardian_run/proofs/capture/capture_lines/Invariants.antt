@@ -3,7 +3,7 @@ use Rattle.std.specs.List.{flat_map, enumerate_from, range_with_len}
 use Rattle.lg_model.specs.Carrying.{picked}
 use Rattle.lg_model.specs.Arriving.{brought}
 use Rattle.guardian_run.specs.Outputs.{host_lines}
-use Rattle.guardian_run.proofs.capture.capture.Given as goal
+use Rattle.guardian_run.proofs.capture.capture_lines.Given as goal
 
 abbrev pub invariant-loop-at : goal.invariant-loop-at
 invariant-loop-at l = record {

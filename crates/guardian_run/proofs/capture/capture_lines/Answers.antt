@@ -11,7 +11,7 @@ use Rattle.lg_model.proofs.Pairing.{matched_length}
 use Rattle.sketchlet_wire.specs.Packing.{IsPacked}
 use Rattle.guardian_run.specs.Outputs.{host_lines}
 use Rattle.guardian_run.proofs.Keeping.{lines_more, brought_more, host_known}
-use Rattle.guardian_run.proofs.capture.capture.Goals as goal
+use Rattle.guardian_run.proofs.capture.capture_lines.Goals as goal
 
 pub loop-at-preserved : goal.loop-at-preserved
 loop-at-preserved c =

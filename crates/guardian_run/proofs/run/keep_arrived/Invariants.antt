@@ -2,7 +2,7 @@ use Rattle.std.specs.Prelude.{◌≡◌, fold, take}
 use Rattle.lg_model.specs.Carrying.{picked}
 use Rattle.lg_model.specs.Arriving.{brought}
 use Rattle.lg_model.specs.Answer.{with_column}
-use Rattle.guardian_run.proofs.report.keep_arrived.Given as goal
+use Rattle.guardian_run.proofs.run.keep_arrived.Given as goal
 
 abbrev pub invariant-loop-packed : goal.invariant-loop-packed
 invariant-loop-packed l = record {

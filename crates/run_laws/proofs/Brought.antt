@@ -2,7 +2,7 @@
 use Rattle.std.specs.Prelude.{◌≡◌, ℕ, ◌<◌, ◌+◌, ◌==◌, List, [], ◌∷◌, All, Any, map, filter, length, take, Bool, true, false, cond, Option, Some, None, IfSome, slice_index_or, count_by, ◌≤◌}
 use Rattle.std.specs.List.{flat_map, filter_map, enumerate_from, find, cons_option, range_with_len}
 use Rattle.std.specs.Option.{option_map}
-use Rattle.std.proofs.Common.{sym, ap, ◌∙◌, subst, arith, take_all}
+use Rattle.std.proofs.Common.{refl, sym, ap, ◌∙◌, subst, arith, take_all}
 use Rattle.std.proofs.lemmas.List.Elements.{All-map, All-filter, All-append, All-nil, All-replicate, All-take, All-get_or, All-cons, All-head, All-tail}
 use Rattle.lg_model.proofs.Tracing.{ended_rises}
 use Rattle.lg_model.specs.declared.scenario.Flow.{Flow}
@@ -12,7 +12,7 @@ use Rattle.lg_model.specs.Scenario.{Scenario, flow_at, no_flow, IsFlow, IsStep, 
 use Rattle.lg_model.specs.Trace.{Packet, Meeting, packets_of, packets, meetings, meetings_of, meeting_of, reach}
 use Rattle.lg_model.specs.Carrying.{Carry, IsAllowed, IsCarriedAt}
 use Rattle.lg_model.specs.Arriving.{column_of, cargo, brings, deliveries, arrivals, brought, brought_to_all, packet_at}
-use Rattle.lg_model.specs.Columns.{Column}
+use Rattle.lg_model.specs.Columns.{Column, dims_of}
 
 -- what each element gives
 pub all_flat : {X Y : Type 0} (P : Y → Type 0) (f : X → List Y) (xs : List X) → ((x : X) → All P (f x)) → All P (flat_map f xs)
@@ -39,17 +39,30 @@ if_mapped P f None h = h
 if_mapped P f (Some x) h = h
 
 -- each column that comes to a host is of an entry of the carry list
-pub brought_made : (P : Column → Type 0) (w : Scenario) (cs : List Carry) → All (λ (c : Carry). P (column_of w c)) cs → All P (brought_to_all w cs)
-brought_made P w cs all = all_flat P (brought w cs) (range_with_len 0 (length w.hosts)) (λ h. to_host h)
+pub brought_here : (P : Column → Type 0) (w : Scenario) (cs : List Carry) (h : ℕ) → All (λ (c : Carry). P (column_of w c)) cs → All P (brought w cs h)
+brought_here P w cs h all = All-map P (λ (d : ℕ × Column). d.1) (filter here arrived) (All-filter here Given arrived (all_some Given (brings w cs) (arrivals w) one))
   where
     Given : ℕ × Column → Type 0
     Given d = P d.1
 
-    to_host : (h : ℕ) → All P (brought w cs h)
-    to_host h = All-map P (λ (d : ℕ × Column). d.1) (filter (λ (d : ℕ × Column). d.0 == h) (deliveries w cs (arrivals w)))
-        (All-filter (λ (d : ℕ × Column). d.0 == h) Given (deliveries w cs (arrivals w))
-        (all_some Given (brings w cs) (arrivals w) (λ n. if_mapped Given (λ c. ((packet_at w n).flow.host_at, c)) (cargo w cs n)
-        (if_mapped P (column_of w) (find (λ (c : Carry). c.packet == n) cs) (find_all (λ (c : Carry). P (column_of w c)) (λ (c : Carry). c.packet == n) cs all)))))
+    here : ℕ × Column → Bool
+    here d = d.0 == h
+
+    arrived : List (ℕ × Column)
+    arrived = deliveries w cs (arrivals w)
+
+    entry : (n : ℕ) → IfSome (find (λ (c : Carry). c.packet == n) cs) (λ (c : Carry). P (column_of w c))
+    entry n = find_all (λ (c : Carry). P (column_of w c)) (λ (c : Carry). c.packet == n) cs all
+
+    one : (n : ℕ) → IfSome (brings w cs n) Given
+    one n = if_mapped Given (λ c. ((packet_at w n).flow.host_at, c)) (cargo w cs n) (if_mapped P (column_of w) (find (λ (c : Carry). c.packet == n) cs) (entry n))
+
+pub brought_made : (P : Column → Type 0) (w : Scenario) (cs : List Carry) → All (λ (c : Carry). P (column_of w c)) cs → All P (brought_to_all w cs)
+brought_made P w cs all = all_flat P (brought w cs) (range_with_len 0 (length w.hosts)) (λ h. brought_here P w cs h all)
+
+-- it is of a sketch of the scenario's shape
+pub brought_dims : (w : Scenario) (cs : List Carry) (h : ℕ) → All (λ (c : Column). c.dims ≡ dims_of w.shape) (brought w cs h)
+brought_dims w cs h = brought_here (λ (c : Column). c.dims ≡ dims_of w.shape) w cs h (λ k d inside. refl)
 
 -- a packet of a scenario goes by switches that are there
 abbrev pub IsGuided : ℕ → Packet → Type 0
@@ -85,9 +98,10 @@ met_packets n k (p ∷ ps) all =
 pub met : (w : Scenario) → IsScenario w → All (λ (m : Meeting). m.switch_at < length w.switches) (meetings w)
 met w is = met_packets (length w.switches) 0 (packets w) (guided_steps (length w.hosts) (length w.switches) 0 w.flows w.steps is.flows is.steps)
 
--- and an entry of an allowed list names one, of an epoch that ended
+-- and an entry of an allowed list names one, of an epoch that ended, and an index below the width
 pub record IsPlaced (w : Scenario) (c : Carry) : Type 0 where
   pub declared : c.switch_at < length w.switches
+  pub index : c.index < w.shape.width
   pub ended : c.epoch < ended w c.switch_at (length w.steps)
 
 ended_in_all : (w : Scenario) (s n : ℕ) → ended w s n ≤ ended w s (length w.steps)
@@ -105,6 +119,7 @@ placed_by w c ms all any =
     let before : ended w c.switch_at m.step_at ≡ c.epoch + 1 = ap (λ s. ended w s m.step_at) (sym is.switch) ∙ is.epoch in
     record {
       declared = subst (λ s. s < length w.switches) is.switch low;
+      index = is.index;
       ended = omega (arith, before, ended_in_all w c.switch_at m.step_at);
     }
 

@@ -1,6 +1,6 @@
 use Rattle.std.proofs.Common.{◌∙◌}
 use Rattle.guardian_run.proofs.Keeping.{content_more}
-use Rattle.guardian_run.proofs.report.book.Goals as goal
+use Rattle.guardian_run.proofs.run.book_arrivals.Goals as goal
 
 pub loop-host_at-preserved : goal.loop-host_at-preserved
 loop-host_at-preserved c = record {

@@ -8,9 +8,8 @@ use Rattle.std.specs.Map.{lookup}
 use Rattle.std.specs.Cmp.{nat_cmp_is}
 use Rattle.std.proofs.Common.{refl, sym, ap, ◌∙◌, subst, arith}
 use Rattle.std.proofs.lemmas.List.Elements.{All-nil, All-cons, All-head, All-tail}
-use Rattle.lg_model.specs.declared.column.Bucket.{Bucket}
 use Rattle.lg_model.specs.declared.column.Key.{Key}
-use Rattle.lg_model.specs.Columns.{Column}
+use Rattle.lg_model.specs.Columns.{Cells, Column}
 use Rattle.lg_model.specs.Answer.{key_cmp, Content, found, with_column, content_of}
 use Rattle.column_book.proofs.Entries.{one_key}
 
@@ -31,7 +30,7 @@ other_key : (k q : Key) (o : Ordering) → key_cmp q k ≡ o → rank o ≢ 1 �
 other_key k q o is far same = far (ap rank (sym is ∙ ap (λ (x : Key). key_cmp q x) same ∙ same_key q))
 
 -- what is found after an insertion has what the new and the old have
-pub agrees_more : (P : Key → List Bucket → Type 0) (q k : Key) (v : List Bucket) (es : Content) → P k v → IfSome (found es q) (P q) → IfSome (found (insert_entry key_cmp es k v) q) (P q)
+pub agrees_more : (P : Key → Cells → Type 0) (q k : Key) (v : Cells) (es : Content) → P k v → IfSome (found es q) (P q) → IfSome (found (insert_entry key_cmp es k v) q) (P q)
 agrees_more P q k v [] new old = (elim (key_cmp q k) as (λ o. key_cmp q k ≡ o → IfSome (cond (is_eq o) (Some v) None) (P q)) [
   | Less ↦ λ same. tt
   | Equal ↦ λ same. subst (λ (x : Key). P x v) (sym (one_key q k same)) new
@@ -56,16 +55,16 @@ agrees_more P q k v (e ∷ es) new old =
     ]) refl
 
 -- what columns say alike is said of what is found
-pub agrees_all : (P : Key → List Bucket → Type 0) (q : Key) (cs : List Column) (es : Content) → All (λ (c : Column). P c.key c.buckets) cs → IfSome (found es q) (P q) → IfSome (found (fold with_column es cs) q) (P q)
+pub agrees_all : (P : Key → Cells → Type 0) (q : Key) (cs : List Column) (es : Content) → All (λ (c : Column). P c.key c.cells) cs → IfSome (found es q) (P q) → IfSome (found (fold with_column es cs) q) (P q)
 agrees_all P q [] es all old = old
-agrees_all P q (c ∷ cs) es all old = agrees_all P q cs (with_column es c) (All-tail (λ (x : Column). P x.key x.buckets) c cs all) (agrees_more P q c.key c.buckets es (All-head (λ (x : Column). P x.key x.buckets) c cs all) old)
+agrees_all P q (c ∷ cs) es all old = agrees_all P q cs (with_column es c) (All-tail (λ (x : Column). P x.key x.cells) c cs all) (agrees_more P q c.key c.cells es (All-head (λ (x : Column). P x.key x.cells) c cs all) old)
 
-abbrev pub how_many : Option (List Bucket) → ℕ
+abbrev pub how_many : Option Cells → ℕ
 how_many None = 0
 how_many (Some v) = 1
 
 -- where nothing is found after an insertion, nothing was before, and the new key is another
-pub none_before : (q k : Key) (v : List Bucket) (es : Content) → found (insert_entry key_cmp es k v) q ≡ None → (found es q ≡ None) × (k ≢ q)
+pub none_before : (q k : Key) (v : Cells) (es : Content) → found (insert_entry key_cmp es k v) q ≡ None → (found es q ≡ None) × (k ≢ q)
 none_before q k v [] none = (elim (key_cmp q k) as (λ o. key_cmp q k ≡ o → cond (is_eq o) (Some v) None ≡ None → (found [] q ≡ None) × (k ≢ q)) [
   | Less ↦ λ s h. (refl, other_key k q Less s (λ x. absurd (omega (arith, x))))
   | Equal ↦ λ s h. let x = ap how_many h in absurd (omega (arith, x))
@@ -94,13 +93,13 @@ pub none_has : (q : Key) (cs : List Column) (es : Content) → found (fold with_
 none_has q [] es none = (none, All-nil (λ (c : Column). c.key ≢ q))
 none_has q (c ∷ cs) es none =
     let rest = none_has q cs (with_column es c) none in
-    let first = none_before q c.key c.buckets es rest.0 in
+    let first = none_before q c.key c.cells es rest.0 in
     (first.0, All-cons (λ (x : Column). x.key ≢ q) c cs first.1 rest.1)
 
 -- where none of the columns has a key, nothing is found under it
 pub none_found : (q : Key) (cs : List Column) → All (λ (c : Column). c.key ≢ q) cs → found (content_of cs) q ≡ None
 none_found q cs all = nothing (found (content_of cs) q) (agrees_all (λ k v. k ≢ q) q cs [] all tt)
   where
-    nothing : (o : Option (List Bucket)) → IfSome o (λ v. q ≢ q) → o ≡ None
+    nothing : (o : Option Cells) → IfSome o (λ v. q ≢ q) → o ≡ None
     nothing None h = refl
     nothing (Some v) h = absurd (h refl)

@@ -3,7 +3,7 @@ use Rattle.std.specs.List.{flat_map, range_with_len}
 use Rattle.lg_model.specs.Carrying.{picked}
 use Rattle.lg_model.specs.Arriving.{brought}
 use Rattle.lg_model.specs.Answer.{content_of}
-use Rattle.guardian_run.proofs.report.book.Given as goal
+use Rattle.guardian_run.proofs.run.book_arrivals.Given as goal
 
 abbrev pub invariant-loop-host_at : goal.invariant-loop-host_at
 invariant-loop-host_at l = record {

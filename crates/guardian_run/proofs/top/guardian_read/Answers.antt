@@ -1,0 +1,23 @@
+use Rattle.std.proofs.Common.{Some, refl, sym, ap, ◌∙◌, rules}
+use Rattle.guardian_words.specs.declared.commands.Command.TheVariants.{Run, Capture}
+use Rattle.guardian_run.specs.Commands.{reading_command}
+use Rattle.guardian_run.proofs.EndLemmas.{ends_given, ends_unread}
+use Rattle.guardian_run.proofs.top.guardian_read.Goals as goal
+
+pub returns-in-Some-Capture : goal.returns-in-Some-Capture
+returns-in-Some-Capture g c =
+    let same = ap reading_command (sym c.command.ensures ∙ c.in-Some-Capture.is ∙ ap Some c.in-Some-Capture.field-0-is) in
+    ends_given (λ text. text.items) _ Capture _ _ c.end.result c.capture.result same
+    c.capture.ensures.output c.capture.ensures.refused c.end.ensures.output c.end.ensures.refused
+
+pub returns-in-Some-Run : goal.returns-in-Some-Run
+returns-in-Some-Run g c =
+    let end = c.end-in-Some-Run in
+    let none = ap reading_command (sym c.command.ensures ∙ c.in-Some-Run.is ∙ ap Some c.in-Some-Run.field-0-is) in
+    ends_unread _ _ _ end.result none (record { bytes = refl; faults = refl }) (search rules) end.ensures.refused
+
+pub returns-in-None : goal.returns-in-None
+returns-in-None g c =
+    let end = c.end-in-None in
+    let none = ap reading_command (sym c.command.ensures ∙ c.in-None.is) in
+    ends_unread _ _ _ end.result none (record { bytes = refl; faults = refl }) (search rules) end.ensures.refused
