@@ -10,7 +10,7 @@ use Rattle.column_pick.specs.Picks.{AnyPicks, fresh, after_offers, chance_stream
 abbrev pub LawOfTheWords : Type 0
 LawOfTheWords = (n name a hops : ℕ) (offer : Offer) → stream_answer hops offer (chance_stream n name a) ≡ chosen (choices.Chance n) name a hops offer
 
--- An answer of a picker that was offered so often is the choice of the switch of that name, and the picker goes on to
+-- An answer of a picker that was offered that often is the choice of the switch of that name, and the picker goes on to
 -- what it is after one offer more.
 pub record IsNextOffer (pick : Pick) (name offers hops : ℕ) (offer : Offer) (said : Option ℕ) (after : AnyPicker) : Type 0 where
   pub answer : said ≡ chosen pick name offers hops offer

@@ -52,7 +52,7 @@ abbrev pub fresh : Pick → (name : ℕ) → AnyPicker
 fresh choices.Turns name = Turns 0
 fresh (choices.Chance n) name = Chance (of_seed (chance_seed n name))
 
--- The picker of the switch of that name after so many offers.
+-- The picker of the switch of that name after that many offers.
 abbrev pub after_offers : Pick → (name offers : ℕ) → AnyPicker
 after_offers choices.Turns name offers = Turns offers
 after_offers (choices.Chance n) name offers = Chance (chance_stream n name offers)

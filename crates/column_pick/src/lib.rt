@@ -3,7 +3,7 @@
 //! | Item | What it is |
 //! |---|---|
 //! | [`Picker`] | what every picker does |
-//! | [`Turns`] | gives the columns one after the other, at every so many offers |
+//! | [`Turns`] | gives the columns one after the other, at each offer whose number the hops left divide |
 //! | [`Chance`] | gives columns by the words of a random stream |
 //! | [`Script`] | gives the answers of a list |
 //! | [`AnyPicker`] | a picker by turns or by chance |

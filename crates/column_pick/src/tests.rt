@@ -67,7 +67,7 @@ fn picks_by_turns(rt: HostRuntime) -> Result<(), Fail> {
         assert_eq!(rt; offer(&rt, &mut turns, hops_left, &mut twins), want);
     }
 
-    // The count of offers goes on behind the end of an epoch, and the columns begin anew.
+    // The count of offers goes on after the end of an epoch, and the columns begin anew.
     assert!(rt; twins.epoch() < 2);
     twins.end();
     for (hops_left, want) in [(2, None), (5, Some(0)), (1, Some(1))] {

@@ -134,7 +134,7 @@ impl FlowKey {
     /// Writes the one text of the key at the front of `out` and answers its length in bytes, at most 47.
     ///
     /// The text is the one that [`parse`](FlowKey::parse) describes and reads as this key. Nothing is said of the bytes
-    /// of `out` behind it.
+    /// of `out` after it.
     ///
     /// ```
     /// // the key of "10.0.0.1 10.0.0.2 6 2 1"

@@ -219,7 +219,7 @@ held_one_more w n k low inside =
     ∙ ap (λ xs. held w n ++ xs) (map-append first (filter late (sent_by w n k)) (filter late ((k, packet_at w k) ∷ [])) ∙ ap (λ xs. map first (filter late (sent_by w n k)) ++ xs) one)
     ∙ sym (append_assoc (held w n) (map first (filter late (sent_by w n k))) (cond (is_late (packet_at w k).fate) (k ∷ []) []))
 
--- behind the last packet of a step that releases nothing
+-- after the last packet of a step that releases nothing
 sent_all : (w : Scenario) (n k : ℕ) → n < length w.steps → k ≡ length (packets_until w (n + 1)) → sent_by w n k ≡ enumerate_from (length (packets_until w n)) (packets_of w.flows (n, step_at w n))
 sent_all w n k h same =
     ap (λ ps. enumerate_from (length (packets_until w n)) (drop (length (packets_until w n)) ps)) (prefix_split w (n + 1) k (omega arith) same ∙ packets_more w n h)

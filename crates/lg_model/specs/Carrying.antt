@@ -78,7 +78,7 @@ abbrev pub with_choice : Scenario → Meeting → List Carry → Option ℕ → 
 with_choice w m cs None = cs
 with_choice w m cs (Some j) = cs ++ carry_at w m j ∷ []
 
--- What the meetings of the packet of number n add to the carried list: entries of it or of later packets, behind the others.
+-- What the meetings of the packet of number n add to the carried list: entries of it or of later packets, after the others.
 pub record Adds (n : ℕ) (old new : List Carry) : Type 0 where
   pub more : List Carry
   pub is : new ≡ old ++ more

@@ -71,14 +71,14 @@ four steps asks = network 2 (1 ∷ []) (flow 1 2 1 (0 ∷ []) ∷ flow 2 2 2 (0 
 abbrev pub three_asks : List Ask
 three_asks = ask 0 1 0 ∷ ask 1 1 0 ∷ ask 2 1 0 ∷ []
 
--- Two switches on the way; the packets behind the ends are these.
+-- Two switches on the way; the packets after the ends are these.
 abbrev pub two : List Step → Scenario
 two rest = network 1 (1 ∷ 2 ∷ []) (flow 1 2 1 (0 ∷ 1 ∷ []) ∷ []) (Packet 0 1500 (20 ∷ 30 ∷ []) 1 Straight ∷ EndAll ∷ rest) (ask 0 1 0 ∷ ask 0 2 0 ∷ [])
 
 abbrev pub on_both : Fate → Step
 on_both fate = Packet 0 100 (5 ∷ 5 ∷ []) 1 fate
 
--- steps.Packet that arrive twice, and late ones, which a release lets go, the last one first.
+-- Packets that arrive twice, and late ones, which arrive at a release, the last one first.
 abbrev pub late : Scenario
 late = four (send 0 100 10 Straight ∷ send 1 50 30 Straight ∷ End 0 ∷ send 0 10 1 Twice ∷ send 0 10 1 Late ∷ send 0 10 1 Late ∷ Release ∷ []) three_asks
 

@@ -42,7 +42,7 @@ pub enum Letter {
 pub enum Fate {
     /// Each arrives once.
     Straight,
-    /// Each is lost behind that many hops of its path.
+    /// Each is lost after that many hops of its path.
     Lost(u8),
     /// Each arrives twice in succession.
     Twice,

@@ -1,4 +1,4 @@
--- What becomes of a packet behind its last hop.
+-- What becomes of a packet after its last hop.
 use Rattle.std.specs.Prelude.{◌≡◌, ℕ, ◌<◌, cond, List, [], ◌∷◌, ◌++◌, length, reverse, slice_set, slice_index_or, Option, Some, None, All}
 use Rattle.std.specs.Option.{option_map}
 use Rattle.std.proofs.Common.{refl, sym, ap, ◌∙◌, subst, arith, append-nil, append_assoc}

@@ -31,7 +31,7 @@ impl Inbox {
         }
     }
 
-    /// Puts a column behind the others. Memory where there is none for it; the inbox is then as before.
+    /// Puts a column after the others. Memory where there is none for it; the inbox is then as before.
     pub fn push(&mut self, packed: &Packed) -> Result<(), Memory>
         ensures { IfOk result (λ _. self.new ≡ self.old ++ packed.now ∷ []) }
     {

@@ -24,7 +24,7 @@ fn arrive(inboxes: &mut [Inbox], host_at: u16, packed: &Packed) -> Result<(), Me
     inbox.push(packed)
 }
 
-/// What becomes of a packet behind its last hop, by its fate: what it carries arrives, once or twice in succession, or
+/// What becomes of a packet after its last hop, by its fate: what it carries arrives, once or twice in succession, or
 /// is held, or is lost. Memory where there is none for it.
 pub fn settle(
     scenario: &Scenario,

@@ -8,7 +8,7 @@ use std::alloc::Global;
 use std::process::Abort;
 use std::test::Fail;
 
-// A burst whose bytes sum to less than a counter's last value, and behind the end a packet that carries the column.
+// A burst whose bytes sum to less than a counter's last value, and after the end a packet that carries the column.
 const BURST: &str =
     "guardian 1\nshape 2 1 ports\npick turns\nhost 1\nswitch 1\nflow 1 10.0.0.1 10.0.0.2 6 2 1 host 1 path 1\npacket 1 65535 20 burst 65536\nend 1\npacket 1 100 5\ndone\n";
 
