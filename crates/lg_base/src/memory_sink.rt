@@ -28,7 +28,13 @@ impl Model for MemorySink {
 
     ghost Value = { SinkState };
 
-    ghost view = { λ s. record { written = s.bytes.items; piece = s.piece; failing = s.failing; starved = s.starved; faults = s.faults } };
+    ghost view = { λ s. record {
+      written = s.bytes.items;
+      piece = s.piece;
+      failing = s.failing;
+      starved = s.starved;
+      faults = s.faults;
+    } };
 
     ghost invariant = { λ s. 0 < s.piece };
 }

@@ -4,14 +4,14 @@ use Rattle.std.proofs.lemmas.List.{take_all, take-append-le, take_more, length_p
 use Rattle.std.proofs.lemmas.Bool.{cases_lt, false≢true}
 use Rattle.std.specs.declared.alloc.Global.{Global}
 use Rattle.lg_disk.specs.Disk.{Course, Torn, Shorter, Same, Holds, Only}
-use Rattle.lg_disk.specs.Model.{State, start, wrote, step, run, IsImage}
+use Rattle.lg_disk.specs.Model.{State, start, step, run, IsImage}
 use Rattle.lg_disk.specs.Choices.{IsFilledAt, IsChosen}
 use Rattle.lg_disk.specs.declared.choice.Choice.{Choice}
 use Rattle.lg_disk.specs.Laws.{step_inside, step_past}
-use Rattle.lg_disk.specs.Memory.{Medium, state, IsHonest, IsNow, IsSince, moment, IsKept, reads_now, FailsExactly, IsDue, did, failed, starved, counted, noted, faulted, wanted, first_half}
+use Rattle.lg_disk.specs.Memory.{Medium, state, IsHonest, IsNow, IsSince, moment, IsKept, reads_now, FailsExactly, IsDue, did, counted, noted, faulted, wanted, first_half}
 use Rattle.lg_disk.specs.declared.call.Call.{Call}
 use Rattle.lg_disk.specs.declared.call.Call.TheVariants.{Nothing, Write, Cut, Sync}
-use Rattle.lg_disk.proofs.Images.{torn_step, torn_same, shorter_from, shorter_same, only_seen, chosen_image, synced_image}
+use Rattle.lg_disk.proofs.Images.{torn_step, torn_same, shorter_from, only_seen, chosen_image, synced_image}
 
 pub run_push : (s : State) (calls : List Call) (call : Call) → run s (calls ++ call ∷ []) ≡ step (run s calls) call
 run_push s [] call = refl
@@ -130,7 +130,8 @@ write_follows old at n v le c image = torn_step (state old) at n v c (some old) 
 state_did : (old new : Medium) (call : Call) → new ≡ did old call → state new ≡ step (state old) call
 state_did old new call same = ap (λ (m : Medium). state m) same ∙ run_push (start old.first) old.calls call
 
-pub state_ok : {T E : Type 0} (r : Result T E) (whole part : Call) (old new : Medium) → FailsExactly r whole part old new → OnOk r (state new ≡ step (state old) whole)
+pub state_ok : {T E : Type 0} (r : Result T E) (whole part : Call) (old new : Medium) → FailsExactly r whole part old new
+    → OnOk r (state new ≡ step (state old) whole)
 state_ok (Ok x) whole part old new exact = state_did old new whole exact.1
 state_ok (Err e) whole part old new exact = tt
 

@@ -1,14 +1,14 @@
 -- What one call adds to the images: each image after it is a step of one before it.
-use Rattle.std.proofs.Common.{◌≡◌, ◌⊎◌, inl, inr, ⊎_elim, ℕ, zero, suc, ◌+◌, ◌-◌, ◌<◌, ◌≤◌, min, max, List, [], ◌∷◌, ◌++◌, length, take, drop, get_or, refl, sym, ◌∙◌, ap, subst, arith, length-append, length-take, length-drop, take-append-drop, append_assoc, if◌then◌else◌}
+use Rattle.std.proofs.Common.{◌≡◌, ◌⊎◌, inl, inr, ⊎_elim, ℕ, zero, suc, ◌+◌, ◌-◌, ◌<◌, ◌≤◌, min, max, List, [], ◌∷◌, ◌++◌, length, take, drop, get_or, refl, sym, ◌∙◌, ap, subst, arith, length-take, length-drop, take-append-drop, append_assoc, if◌then◌else◌}
 use Rattle.std.proofs.lemmas.List.{ext_get_or, get_or-take, get_or-drop, drop-drop, take_all}
 use Rattle.std.proofs.lemmas.List.Elements.{Contains-push_cases}
 use Rattle.std.proofs.lemmas.Bool.{cases_lt}
 use Rattle.std.proofs.lemmas.Bool.Decides.{nat_tests}
-use Rattle.std.specs.Prelude.{nat_lt, Any}
-use Rattle.lg_disk.specs.Disk.{Torn, Shorter, Same}
+use Rattle.std.specs.Prelude.{nat_lt}
+use Rattle.lg_disk.specs.Disk.{Torn, Shorter}
 use Rattle.lg_disk.specs.Model.{State, start, wrote, step, run, IsWritten, IsImage}
 use Rattle.lg_disk.specs.Laws.{step_inside, step_past}
-use Rattle.lg_disk.specs.Choices.{IsFilled, IsFilledAt, IsChosen}
+use Rattle.lg_disk.specs.Choices.{IsChosen}
 use Rattle.lg_disk.specs.declared.choice.Choice.{Choice}
 use Rattle.lg_disk.specs.declared.choice.Choice.TheVariants.{AsRead, AsSynced, FillLong, FillShort}
 use Rattle.lg_disk.specs.declared.call.Call.{Call}

@@ -4,7 +4,7 @@ use Rattle.lg_disk.specs.Model.{State, IsWritten}
 use Rattle.lg_disk.specs.declared.choice.Choice.{Choice}
 use Rattle.lg_disk.specs.declared.choice.Choice.TheVariants.{AsRead, AsSynced, FillLong, FillShort}
 
--- What stands at a place of a filled image: where a crash may leave any byte that byte, and else what the last sync left.
+-- What stands at a place of a filled image: this byte where a crash may leave any, and else what the last sync left.
 pub record IsFilledAt (s : State) (byte i found : ℕ) : Type 0 where
   pub free : IsWritten s.written i ⊎ (length s.synced ≤ i) → found ≡ byte
   pub kept : i < length s.synced → (IsWritten s.written i → ⊥) → found ≡ get_or s.synced i 0

@@ -29,13 +29,14 @@ pub record Shorter (n : ℕ) (old new : List ℕ) : Type 0 where
 abbrev pub Only : List ℕ → (List ℕ → Type 0) → Type 0
 Only file images = (c : List ℕ) → images c → c ≡ file
 
--- What a call of a disk does, whether it fails or not. Honesty is kept, both ways, and time goes on. A crash at a moment
--- of the call leaves a step of what a crash right before it might have left. A crash since an earlier moment leaves what
--- it might have left before the call, or what a crash since the start of the call might leave.
+-- What a call of a disk does, whether it fails or not. Honesty is kept, both ways, and time goes on. A crash at a
+-- moment of the call leaves a step of what a crash right before it might have left. A crash since an earlier moment
+-- leaves what it might have left before the call, or what a crash since the start of the call might leave.
 pub record Course {D : Type 0} (honest : D → Type 0) (images : D → List ℕ → Type 0) (moment : D → ℕ)
     (since : D → ℕ → List ℕ → Type 0) (step : List ℕ → List ℕ → Type 0) (old new : D) : Type 0 where
   pub still : honest old → honest new
   pub was : honest new → honest old
   pub later : moment old ≤ moment new
   pub during : honest old → (c : List ℕ) → since new (moment old) c → (b : List ℕ) × images old b × step b c
-  pub before : honest old → (t : ℕ) (c : List ℕ) → t ≤ moment old → since new t c → since old t c ⊎ since new (moment old) c
+  pub before : honest old → (t : ℕ) (c : List ℕ) → t ≤ moment old → since new t c
+      → since old t c ⊎ since new (moment old) c

@@ -1,6 +1,6 @@
 -- A disk as it reads is one of its images, after every list of calls.
-use Rattle.std.proofs.Common.{◌≡◌, ◌⊎◌, inl, inr, ℕ, ◌+◌, ◌-◌, ◌<◌, ◌≤◌, max, List, [], ◌∷◌, ◌++◌, length, take, drop, get_or, refl, sym, ◌∙◌, ap, subst, arith, length-append, length-take, length-drop, if◌then◌else◌, Bool, true, false}
-use Rattle.std.specs.Prelude.{nat_le, Any}
+use Rattle.std.proofs.Common.{◌≡◌, inl, inr, ℕ, ◌+◌, ◌-◌, ◌<◌, ◌≤◌, max, List, [], ◌∷◌, ◌++◌, length, take, drop, get_or, refl, sym, ◌∙◌, ap, subst, arith, length-append, length-take, length-drop, if◌then◌else◌, Bool, false}
+use Rattle.std.specs.Prelude.{nat_le}
 use Rattle.std.proofs.lemmas.List.{get_or-take, get_or-drop, get_or_append_left, get_or-append_right}
 use Rattle.std.proofs.lemmas.List.Quantifiers.{Any-push}
 use Rattle.std.proofs.lemmas.Bool.{cases_lt, le-leb}
@@ -23,11 +23,18 @@ pub written_more : (ranges : List (ℕ × ℕ)) (r : ℕ × ℕ) (i : ℕ) → I
 written_more ranges r i (k, x, lt, is, inside) =
     (k, x, omega (arith, length-append ranges (r ∷ []), lt), get_or_append_left ranges (r ∷ []) x k lt ∙ is, inside)
 
-length-with_bytes : (file : List ℕ) (at : ℕ) (bytes : List ℕ) → at ≤ length file → length (with_bytes file at bytes) ≡ max (length file) (at + length bytes)
-length-with_bytes file at bytes le =
-    omega (arith, length-append (take at file ++ bytes) (drop (at + length bytes) file), length-append (take at file) bytes, length-take at file, length-drop (at + length bytes) file, le)
+written_last : (ranges : List (ℕ × ℕ)) (at n i : ℕ) → at ≤ i → i < at + n → IsWritten (ranges ++ (at, n) ∷ []) i
+written_last ranges at n i from below = Any-push (λ (r : ℕ × ℕ). (r.0 ≤ i) × (i < r.0 + r.1)) ranges (at, n) (from, below)
 
-write_reads : (s : State) (at : ℕ) (v : List ℕ) → IsImage s s.seen → at ≤ length s.seen → IsImage (wrote s at v) (wrote s at v).seen
+length-with_bytes : (file : List ℕ) (at : ℕ) (bytes : List ℕ) → at ≤ length file
+    → length (with_bytes file at bytes) ≡ max (length file) (at + length bytes)
+length-with_bytes file at bytes le =
+    let rest = drop (at + length bytes) file in
+    let parts = length-append (take at file ++ bytes) rest in
+    omega (arith, parts, length-append (take at file) bytes, length-take at file, length-drop (at + length bytes) file, le)
+
+write_reads : (s : State) (at : ℕ) (v : List ℕ) → IsImage s s.seen → at ≤ length s.seen
+    → IsImage (wrote s at v) (wrote s at v).seen
 write_reads s at v image le = record {
   no_shorter = omega (arith, image.no_shorter, long);
   no_longer = omega (arith, image.no_longer, long);
@@ -37,24 +44,21 @@ write_reads s at v image le = record {
     long : length (with_bytes s.seen at v) ≡ max (length s.seen) (at + length v)
     long = length-with_bytes s.seen at v le
 
-    front : List ℕ
-    front = take at s.seen ++ v
+    front : length (take at s.seen ++ v) ≡ at + length v
+    front = omega (arith, length-append (take at s.seen) v, length-take at s.seen)
 
-    back : List ℕ
-    back = drop (at + length v) s.seen
-
-    outside : (i : ℕ) → i < length (with_bytes s.seen at v) → i < length s.synced → (IsWritten (s.written ++ (at, length v) ∷ []) i → ⊥)
-        → get_or (with_bytes s.seen at v) i 0 ≡ get_or s.synced i 0
+    outside : (i : ℕ) → i < length (with_bytes s.seen at v) → i < length s.synced
+        → (IsWritten (s.written ++ (at, length v) ∷ []) i → ⊥) → get_or (with_bytes s.seen at v) i 0 ≡ get_or s.synced i 0
     outside i lt short free = elim (cases_lt i at) [
       | inl before ↦
-          get_or_append_left (take at s.seen ++ v) (drop (at + length v) s.seen) 0 i (omega (arith, length-append (take at s.seen) v, length-take at s.seen))
+          get_or_append_left (take at s.seen ++ v) (drop (at + length v) s.seen) 0 i (omega (arith, front))
           ∙ get_or_append_left (take at s.seen) v 0 i (omega (arith, length-take at s.seen))
           ∙ get_or-take at s.seen i 0 before
           ∙ image.outside i (omega arith) short (λ w. free (written_more s.written (at, length v) i w))
       | inr from ↦ elim (cases_lt i (at + length v)) [
-        | inl below ↦ absurd (free (Any-push (λ (r : ℕ × ℕ). (r.0 ≤ i) × (i < r.0 + r.1)) s.written (at, length v) (from, below)))
+        | inl below ↦ absurd (free (written_last s.written at (length v) i from below))
         | inr after ↦
-            get_or-append_right (take at s.seen ++ v) (drop (at + length v) s.seen) (at + length v) i 0 (omega (arith, length-append (take at s.seen) v, length-take at s.seen)) after
+            get_or-append_right (take at s.seen ++ v) (drop (at + length v) s.seen) (at + length v) i 0 front after
             ∙ get_or-drop (at + length v) s.seen (i - (at + length v)) 0
             ∙ ap (λ (j : ℕ). get_or s.seen j 0) (omega arith)
             ∙ image.outside i (omega (arith, long)) short (λ w. free (written_more s.written (at, length v) i w))

@@ -3,3 +3,4 @@ pub mod Model
 pub mod Laws
 pub mod Memory
 pub mod Choices
+pub mod File

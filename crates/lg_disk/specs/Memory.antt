@@ -21,6 +21,10 @@ pub record Medium : Type 0 where
 abbrev pub state : Medium → State
 state m = run (start m.first) m.calls
 
+-- what a read gives
+abbrev pub file_of : Medium → List ℕ
+file_of m = (state m).seen
+
 -- It tells all.
 abbrev pub IsHonest : Medium → Type 0
 IsHonest m = ⊤
@@ -75,7 +79,8 @@ starved m = faulted (wanted (counted m))
 -- `part` where it is listed or stopped.
 abbrev pub FailsExactly : {T E : Type 0} → Result T E → Call → Call → Medium → Medium → Type 0
 FailsExactly result whole part old new =
-    MatchResult result (λ _. (IsDue old → ⊥) × (new ≡ did old whole)) (λ _. (IsDue old × (new ≡ failed old part)) ⊎ (new ≡ starved old))
+    MatchResult result (λ _. (IsDue old → ⊥) × (new ≡ did old whole))
+    (λ _. (IsDue old × (new ≡ failed old part)) ⊎ (new ≡ starved old))
 
 -- the first half, rounded down
 abbrev pub first_half : List ℕ → List ℕ

@@ -46,4 +46,5 @@ IsWritten ranges i = Any (λ (r : ℕ × ℕ). (r.0 ≤ i) × (i < r.0 + r.1)) r
 pub record IsImage (s : State) (c : List ℕ) : Type 0 where
   pub no_shorter : s.least ≤ length c
   pub no_longer : length c ≤ s.greatest
-  pub outside : (i : ℕ) → i < length c → i < length s.synced → (IsWritten s.written i → ⊥) → get_or c i 0 ≡ get_or s.synced i 0
+  pub outside : (i : ℕ) → i < length c → i < length s.synced → (IsWritten s.written i → ⊥)
+      → get_or c i 0 ≡ get_or s.synced i 0

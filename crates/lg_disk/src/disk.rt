@@ -51,7 +51,8 @@ pub trait Disk {
     /// most. Of a write that starts past the end it is only told what a crash may leave.
     fn write_at(&mut self, at: u64, bytes: &[u8]) -> Result<(), Failed>
         requires { at + length bytes.now ≤ 2 ^ 40 }
-        ensures written { honest self.old → at ≤ length (seen self.old) → OnOk result (Holds (seen self.old) at bytes.now (seen self.new)) }
+        ensures written { honest self.old → at ≤ length (seen self.old) →
+            OnOk result (Holds (seen self.old) at bytes.now (seen self.new)) }
         ensures course { Course honest images moment since (Torn at (length bytes.now)) self.old self.new }
         ensures cause { HasCause (faults self.old) (faults self.new) result };
 

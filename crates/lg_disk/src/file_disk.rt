@@ -15,7 +15,7 @@ use std::rt::Files;
 ///
 /// It counts its faults: a call of the system that fails, and a read within the file that gets fewer bytes. It is not
 /// honest and tells no bytes: that a real file behaves as the disk model says is a premise of the user, and not proved.
-/// Contracts see it as its count of faults.
+/// Contracts see the name and the count of faults.
 #[derive(Drop)]
 pub struct FileDisk<'a, F: Files> {
     files: &'a F,
@@ -27,11 +27,11 @@ pub struct FileDisk<'a, F: Files> {
 }
 
 impl<'a, F: Files> Model for FileDisk<'a, F> {
-    ghost use Rattle.std.specs.Prelude.{ℕ};
+    ghost use Rattle.lg_disk.specs.File.{FileState};
 
-    ghost Value = { ℕ };
+    ghost Value = { FileState };
 
-    ghost view = { λ d. d.faults };
+    ghost view = { λ d. record { name = d.name.now; faults = d.faults } };
 }
 
 // Opens the file to read and write it. None: it isn't there, and was not to be made.
@@ -90,7 +90,7 @@ fn cut_to<F: OpenFile>(file: &F, len: u64) -> io::Result<()> {
 impl<'a, F: Files> FileDisk<'a, F> {
     /// A disk over the file of that name, with no fault yet. Opens nothing and takes no memory.
     pub fn at(files: &'a F, name: &'a str) -> FileDisk<'a, F>
-        ensures { result ≡ 0 }
+        ensures { result ≡ record { name = name.now; faults = 0 } }
     {
         FileDisk {
             files,
@@ -189,8 +189,8 @@ impl<'a, F: Files> FileDisk<'a, F> {
     fn told<T: Drop>(&mut self, outcome: io::Result<T>) -> Result<T, Failed>
         ensures same { IfOk result (λ x. outcome ≡ Ok x) }
         ensures no_fault { OnOk result (self.new ≡ self.old) }
-        ensures fault { OnErr result (self.new ≡ one_more self.old) }
-        ensures cause { HasCause self.old self.new result }
+        ensures fault { OnErr result (self.new ≡ record self.old { faults = one_more self.old.faults }) }
+        ensures cause { HasCause self.old.faults self.new.faults result }
     {
         match outcome {
             Ok(x) => Ok(x),
@@ -213,7 +213,7 @@ impl<'a, F: Files> Disk for FileDisk<'a, F> {
 
     ghost since = { λ d t c. ⊥ };
 
-    ghost faults = { λ d. d };
+    ghost faults = { λ d. d.faults };
 
     ghost reads_image = { λ d honest. absurd honest };
 

@@ -7,8 +7,8 @@
 //! | [`FileDisk`] | a disk over a real file |
 //!
 //! Between two syncs that succeed, a crash may leave any bytes in each range that was written and past the length at the
-//! last sync, and any length from the least to the greatest that the file had since. All other bytes stay. After a
-//! sync that succeeds a crash leaves what a read gives. docs/DEFINITIONS.md, "Disk", has the whole of it.
+//! last sync, and any length from the least to the greatest that the file had since. All other bytes stay. After a sync
+//! that succeeds a crash leaves what a read gives. docs/DEFINITIONS.md, "Disk", has the whole of it.
 #![tactic(auto)]
 
 mod bytes;

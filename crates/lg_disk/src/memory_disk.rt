@@ -58,7 +58,8 @@ fn part_of(alloc: Global, bytes: &[u8], fails: bool) -> Result<Put, Memory>
 }
 
 impl MemoryDisk {
-    ghost use Rattle.lg_disk.specs.Memory.{state, IsHonest, IsNow, IsSince, moment, IsDue, counted, noted, faulted, wanted, FailsExactly};
+    ghost use Rattle.lg_disk.specs.Memory.{state, file_of, IsHonest, IsNow, IsSince, moment, FailsExactly};
+    ghost use Rattle.lg_disk.specs.Memory.{IsDue, counted, noted, faulted, wanted};
     ghost use Rattle.lg_disk.specs.Choices.{IsChosen};
 
     /// A disk with these bytes, all of them synced, that fails no call. Takes memory for a copy of the bytes.
@@ -81,7 +82,7 @@ impl MemoryDisk {
 
     /// From now on the calls of these numbers fail, from 0, and no others do but those stopped. Takes no memory.
     pub fn fail(&mut self, calls: Vec<u32>)
-        ensures { self.new ≡ record self.old { failing = record { listed = calls.items; calls = self.old.failing.calls } } }
+        ensures { self.new ≡ record self.old { failing = record self.old.failing { listed = calls.items } } }
     {
         self.failing.list(calls);
     }
@@ -102,7 +103,7 @@ impl MemoryDisk {
 
     /// What a read gives.
     pub fn bytes(&self) -> &[u8]
-        ensures { result.now ≡ (state self.now).seen }
+        ensures { result.now ≡ file_of self.now }
     {
         &self.bytes
     }
@@ -159,7 +160,8 @@ impl MemoryDisk {
     // Carries out what a call changes that was counted, and fails where it is to.
     fn settle(&mut self, fails: bool, call: Call) -> Result<(), Failed>
         ensures ok { OnOk result ((fails ≡ false) × (self.new ≡ noted self.old call)) }
-        ensures err { OnErr result (((fails ≡ true) × (self.new ≡ faulted (noted self.old call))) ⊎ (self.new ≡ faulted (wanted self.old))) }
+        ensures err { OnErr result (((fails ≡ true) × (self.new ≡ faulted (noted self.old call)))
+            ⊎ (self.new ≡ faulted (wanted self.old))) }
         ensures cause { HasCause self.old.faults self.new.faults result }
     {
         if self.carry(call).is_err() {
@@ -184,7 +186,7 @@ impl MemoryDisk {
 
     // A call that changes nothing.
     fn look(&mut self) -> Result<(), Failed>
-        ensures seen { (state self.new).seen ≡ (state self.old).seen }
+        ensures seen { file_of self.new ≡ file_of self.old }
         ensures course { Course IsHonest IsNow moment IsSince Same self.old self.new }
         ensures exact { FailsExactly result Nothing Nothing self.old self.new }
         ensures cause { HasCause self.old.faults self.new.faults result }
@@ -194,11 +196,12 @@ impl MemoryDisk {
 }
 
 impl Disk for MemoryDisk {
-    ghost use Rattle.lg_disk.specs.Memory.{state, IsHonest, IsNow, IsSince, moment, FailsExactly, reads_now, now_is_since, since_is_now};
+    ghost use Rattle.lg_disk.specs.Memory.{file_of, IsHonest, IsNow, IsSince, moment, FailsExactly};
+    ghost use Rattle.lg_disk.specs.Memory.{reads_now, now_is_since, since_is_now};
 
     ghost honest = { λ m. IsHonest m };
 
-    ghost seen = { λ m. (state m).seen };
+    ghost seen = { λ m. file_of m };
 
     ghost images = { λ m c. IsNow m c };
 
@@ -215,8 +218,8 @@ impl Disk for MemoryDisk {
     ghost only_now = { λ m c honest since. since_is_now m c since };
 
     fn len(&mut self) -> Result<u64, Failed>
-        ensures length { IsHonest self.old → IfOk result (λ n. n ≡ length (state self.old).seen) }
-        ensures seen { IsHonest self.old → (state self.new).seen ≡ (state self.old).seen }
+        ensures length { IsHonest self.old → IfOk result (λ n. n ≡ length (file_of self.old)) }
+        ensures seen { IsHonest self.old → file_of self.new ≡ file_of self.old }
         ensures course { Course IsHonest IsNow moment IsSince Same self.old self.new }
         ensures cause { HasCause self.old.faults self.new.faults result }
         ensures exact { FailsExactly result Nothing Nothing self.old self.new }
@@ -227,9 +230,9 @@ impl Disk for MemoryDisk {
 
     fn read_at(&mut self, at: u64, buf: &mut [u8]) -> Result<usize, Failed>
         ensures fits { IfOk result (λ n. n ≤ length buf.old) }
-        ensures read { IsHonest self.old → IfOk result (λ n. n ≡ min (length buf.old) (length (state self.old).seen - at)) }
-        ensures bytes { IsHonest self.old → IfOk result (λ n. take n buf.new ≡ take n (drop at (state self.old).seen)) }
-        ensures seen { IsHonest self.old → (state self.new).seen ≡ (state self.old).seen }
+        ensures read { IsHonest self.old → IfOk result (λ n. n ≡ min (length buf.old) (length (file_of self.old) - at)) }
+        ensures bytes { IsHonest self.old → IfOk result (λ n. take n buf.new ≡ take n (drop at (file_of self.old))) }
+        ensures seen { IsHonest self.old → file_of self.new ≡ file_of self.old }
         ensures course { Course IsHonest IsNow moment IsSince Same self.old self.new }
         ensures cause { HasCause self.old.faults self.new.faults result }
         ensures exact { FailsExactly result Nothing Nothing self.old self.new }
@@ -240,7 +243,8 @@ impl Disk for MemoryDisk {
 
     fn write_at(&mut self, at: u64, bytes: &[u8]) -> Result<(), Failed>
         requires { at + length bytes.now ≤ 2 ^ 40 }
-        ensures written { IsHonest self.old → at ≤ length (state self.old).seen → OnOk result (Holds (state self.old).seen at bytes.now (state self.new).seen) }
+        ensures written { IsHonest self.old → at ≤ length (file_of self.old) →
+            OnOk result (Holds (file_of self.old) at bytes.now (file_of self.new)) }
         ensures course { Course IsHonest IsNow moment IsSince (Torn at (length bytes.now)) self.old self.new }
         ensures cause { HasCause self.old.faults self.new.faults result }
         ensures exact { FailsExactly result (Write at bytes.now) (Write at (first_half bytes.now)) self.old self.new }
@@ -253,7 +257,7 @@ impl Disk for MemoryDisk {
     }
 
     fn cut(&mut self, len: u64) -> Result<(), Failed>
-        ensures cut { IsHonest self.old → OnOk result ((state self.new).seen ≡ take len (state self.old).seen) }
+        ensures cut { IsHonest self.old → OnOk result (file_of self.new ≡ take len (file_of self.old)) }
         ensures course { Course IsHonest IsNow moment IsSince (Shorter len) self.old self.new }
         ensures cause { HasCause self.old.faults self.new.faults result }
         ensures exact { FailsExactly result (Cut len) Nothing self.old self.new }
@@ -262,8 +266,8 @@ impl Disk for MemoryDisk {
     }
 
     fn sync(&mut self) -> Result<(), Failed>
-        ensures durable { IsHonest self.old → OnOk result (Only (state self.old).seen (IsNow self.new)) }
-        ensures seen { IsHonest self.old → (state self.new).seen ≡ (state self.old).seen }
+        ensures durable { IsHonest self.old → OnOk result (Only (file_of self.old) (IsNow self.new)) }
+        ensures seen { IsHonest self.old → file_of self.new ≡ file_of self.old }
         ensures course { Course IsHonest IsNow moment IsSince Same self.old self.new }
         ensures cause { HasCause self.old.faults self.new.faults result }
         ensures exact { FailsExactly result Sync Nothing self.old self.new }

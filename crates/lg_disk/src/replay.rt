@@ -25,7 +25,13 @@ impl Model for Replay {
 
     ghost Value = { State };
 
-    ghost view = { λ r. record { seen = r.seen.items; synced = r.synced.items; written = r.written.items; least = r.least; greatest = r.greatest } };
+    ghost view = { λ r. record {
+      seen = r.seen.items;
+      synced = r.synced.items;
+      written = r.written.items;
+      least = r.least;
+      greatest = r.greatest;
+    } };
 }
 
 // Whether the byte at i is in one of the ranges.

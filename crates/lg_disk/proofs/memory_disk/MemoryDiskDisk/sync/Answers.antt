@@ -6,7 +6,8 @@ use Rattle.lg_disk.proofs.memory_disk.MemoryDiskDisk.sync.Goals as goal
 
 pub returns-clause-durable : goal.returns-clause-durable
 returns-clause-durable c honest =
-    on_ok c.enter.result (durable c.args.self.now c.enter.new.self) (state_ok c.enter.result Sync Nothing c.args.self.now c.enter.new.self c.enter.ensures.exact)
+    on_ok c.enter.result (durable c.args.self.now c.enter.new.self)
+    (state_ok c.enter.result Sync Nothing c.args.self.now c.enter.new.self c.enter.ensures.exact)
 
 pub returns-clause-seen : goal.returns-clause-seen
 returns-clause-seen c honest = seen_kept c.enter.result Sync c.args.self.now c.enter.new.self c.enter.ensures.exact refl

@@ -23,4 +23,5 @@ returns-in-Ok-clause-written c honest le =
 pub returns-in-Err-clause-course : goal.returns-in-Err-clause-course
 returns-in-Err-clause-course c =
     write_course c.starve.result c.args.at c.args.bytes.now c.args.self.now c.starve.new.self
-    (unfed c.starve.result _ _ c.args.self.now c.fails_next-fails.new.self c.starve.new.self c.starve.ensures.err c.fails_next-fails.ensures.counted c.starve.ensures.starved)
+    (unfed c.starve.result _ _ c.args.self.now c.fails_next-fails.new.self c.starve.new.self
+    c.starve.ensures.err c.fails_next-fails.ensures.counted c.starve.ensures.starved)

@@ -8,5 +8,6 @@ loop-i-preserved c =
     let bytes = c.loop-i.bytes.items in
     let pushed = c.in_ok-push.ensures.items in (
       omega (arith, ap length pushed, length_push bytes c.byte_at.result, c.loop-i.invariant.0),
-      filled_more c.args.self.now c.args.byte c.loop-i.i c.byte_at.result bytes c.push.new.self.items c.loop-i.invariant.0 pushed c.loop-i.invariant.1 c.byte_at.ensures,
+      filled_more c.args.self.now c.args.byte c.loop-i.i c.byte_at.result bytes c.push.new.self.items
+          c.loop-i.invariant.0 pushed c.loop-i.invariant.1 c.byte_at.ensures,
     )

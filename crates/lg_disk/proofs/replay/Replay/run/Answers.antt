@@ -1,5 +1,5 @@
 use Rattle.std.proofs.Common.{◌∙◌, ap, sym}
-use Rattle.lg_disk.specs.Model.{State, run, start, step}
+use Rattle.lg_disk.specs.Model.{State, start, step}
 use Rattle.lg_disk.proofs.Courses.{run_more}
 use Rattle.lg_disk.proofs.replay.Replay.run.Goals as goal
 
