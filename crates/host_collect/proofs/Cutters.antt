@@ -1,14 +1,14 @@
 -- What a cutter gave, with what it holds, is the cut of what it took.
-use Rattle.std.specs.Prelude.{◌≡◌, ℕ, zero, suc, ◌+◌, ◌<◌, ◌≤◌, List, [], ◌∷◌, ◌++◌, length, map, reverse, fold, take, drop, Bool, true, false, cond, Option, Some, None}
+use Rattle.std.specs.Prelude.{◌≡◌, ℕ, ◌+◌, List, [], ◌∷◌, ◌++◌, length, map, reverse, fold, take, drop, Bool, true, false, cond, Option, Some, None}
 use Rattle.std.specs.List.{enumerate_from}
-use Rattle.std.proofs.Common.{refl, sym, ap, ◌∙◌, subst, arith, length-append, append_assoc}
+use Rattle.std.proofs.Common.{refl, sym, ap, ◌∙◌, subst, arith, length-append}
 use Rattle.std.proofs.lemmas.List.{append-nil, reverse-append, take_at, drop_at, map-append, length-map}
 use Rattle.std.proofs.lemmas.List.FromFn.{length-enumerate_from}
 use Rattle.std.proofs.lemmas.List.Sums.{fold-append}
 use Rattle.lg_model.specs.Columns.{Column}
 use Rattle.sketchlet_wire.specs.Uploads.{UploadData, upload_of}
 use Rattle.host_collect.specs.Cutting.{Piece, can_join, with_next, cut, numbered}
-use Rattle.host_collect.specs.Collecting.{CutterData, cutter_of, upload_with, held_upload, with_item, list_of, HasCut, LawOfCutters}
+use Rattle.host_collect.specs.Collecting.{CutterData, cutter_of, with_item, list_of, HasCut, LawOfCutters}
 
 -- ---- numbered pieces
 

@@ -9,7 +9,7 @@ use Rattle.std.proofs.lemmas.Bool.{cases_lt, ltb-true}
 use Rattle.lg_model.specs.declared.limits.TheConstants.{MOST_UPLOAD_COLUMNS}
 use Rattle.lg_model.specs.Columns.{Column}
 use Rattle.sketchlet_wire.specs.Uploads.{IsUpload, holds_key, is_twice, no_column}
-use Rattle.host_collect.specs.Cutting.{Piece, first_of, can_join, with_next, cut, IsLongest, IsCut, LawOfTheCut}
+use Rattle.host_collect.specs.Cutting.{Piece, first_of, can_join, with_next, cut, IsLongest, LawOfTheCut}
 
 -- ---- the pieces are the list
 

@@ -1,14 +1,14 @@
 -- Each piece of a cut is the longest front of the rest that can be an upload.
-use Rattle.std.specs.Prelude.{◌≡◌, ℕ, zero, suc, ◌+◌, ◌<◌, ◌≤◌, ◌&&◌, nat_lt, not, List, [], ◌∷◌, ◌++◌, length, take, slice_index_or, Bool, true, false}
+use Rattle.std.specs.Prelude.{◌≡◌, ℕ, ◌≤◌, ◌&&◌, nat_lt, not, List, [], ◌∷◌, ◌++◌, length, take, slice_index_or, Bool, true, false}
 use Rattle.std.specs.List.{AllByRecursion, flat_map}
-use Rattle.std.proofs.Common.{refl, sym, ap, ◌∙◌, subst, arith, inl, inr, true≢false, length-append, take_all}
+use Rattle.std.proofs.Common.{refl, sym, ap, ◌∙◌, subst, arith, inl, inr, true≢false, length-append}
 use Rattle.std.proofs.Math.Seq.{get_or-append_seam}
-use Rattle.std.proofs.lemmas.List.{append-nil, get_or-take, length-take, take_at, take-take}
+use Rattle.std.proofs.lemmas.List.{get_or-take, length-take, take_at, take-take}
 use Rattle.std.proofs.lemmas.Bool.{cases_lt}
 use Rattle.lg_model.specs.declared.limits.TheConstants.{MOST_UPLOAD_COLUMNS}
 use Rattle.lg_model.specs.Columns.{Column}
 use Rattle.sketchlet_wire.specs.Uploads.{IsUpload, holds_key, is_twice, no_column}
-use Rattle.host_collect.specs.Cutting.{Piece, first_of, can_join, cut, IsLongest, IsLongestFront, AreLongestFronts, LawOfLongestFronts}
+use Rattle.host_collect.specs.Cutting.{Piece, can_join, cut, IsLongest, IsLongestFront, AreLongestFronts, LawOfLongestFronts}
 use Rattle.host_collect.proofs.Cutting.{cut_law}
 
 -- A column that can't join a piece has its key there, or the piece has no room.

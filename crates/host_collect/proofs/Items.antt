@@ -1,8 +1,8 @@
 -- Lists of packed columns.
-use Rattle.std.specs.Prelude.{◌≡◌, ℕ, zero, suc, ◌+◌, ◌<◌, ◌≤◌, List, [], ◌∷◌, ◌++◌, Bool, true, false, cond, length, take, slice_index_or, Option, None, Some, Result, Ok, Err, IfOk, IfErr}
+use Rattle.std.specs.Prelude.{◌≡◌, ℕ, ◌+◌, ◌<◌, List, [], ◌∷◌, ◌++◌, Bool, true, false, cond, length, take, slice_index_or, Option, None, Some, Result, Ok, Err, IfOk, IfErr}
 use Rattle.std.specs.Global.{Vec}
 use Rattle.std.proofs.Common.{refl, sym, ap, ◌∙◌, subst, arith}
-use Rattle.std.proofs.lemmas.List.{take_more, take_all}
+use Rattle.std.proofs.lemmas.List.{take_more}
 use Rattle.lg_model.specs.Columns.{Column}
 use Rattle.lg_model.specs.Matching.{Matched}
 use Rattle.lg_model.proofs.Pairing.{matched_push, matched_at}
@@ -90,11 +90,12 @@ Keeps host items given r = (cs : List Column) × Matched IsPacked items cs × Ha
 
 pub kept_more : (host : ℕ) (items : List Packed) (i : ℕ) (given : List UploadData) (r new : CutterData) (o : Option UploadData) → i < length items → Keeps host (take i items) given r
     → (x : Column) × IsPacked (slice_index_or items i no_item) x × (with_item r x ≡ (o, new)) → Keeps host (take (i + 1) items) (given ++ list_of o) new
-kept_more host items i given r new o low keeps step =
-    (keeps.0 ++ step.0 ∷ [],
-      one_more items i keeps.0 step.0 low keeps.1 step.1,
-      law.more keeps.0 given r new step.0 o keeps.2 step.2,
-      ap (λ (x : Option UploadData × CutterData). x.1.host) (sym step.2) ∙ same_host r step.0 ∙ keeps.3)
+kept_more host items i given r new o low keeps step = (
+  keeps.0 ++ step.0 ∷ [],
+  one_more items i keeps.0 step.0 low keeps.1 step.1,
+  law.more keeps.0 given r new step.0 o keeps.2 step.2,
+  ap (λ (x : Option UploadData × CutterData). x.1.host) (sym step.2) ∙ same_host r step.0 ∙ keeps.3,
+)
 
 pub refused : (items : List Packed) (i n : ℕ) (cs : List Column) (f : CollectFault) → i < length items → Matched IsPacked (take i items) cs → n ≡ i → IsRefused n (slice_index_or items i no_item) f → AreRefused items f
 refused items i n cs (Bad k f) low all n-is h =

@@ -7,7 +7,7 @@ use Rattle.lg_model.specs.Matching.{Matched}
 use Rattle.sketchlet_wire.specs.declared.packed.Packed.{Packed}
 use Rattle.sketchlet_wire.specs.Reading.{column_reading}
 use Rattle.sketchlet_wire.specs.Packing.{IsPacked, packed_bytes}
-use Rattle.sketchlet_wire.specs.Uploads.{UploadData, IsUpload, is_twice, upload_of}
+use Rattle.sketchlet_wire.specs.Uploads.{UploadData, is_twice, upload_of}
 use Rattle.host_collect.specs.declared.fault.CollectFault.{CollectFault}
 use Rattle.host_collect.specs.declared.fault.CollectFault.TheVariants.{Bad, Longer, Memory}
 use Rattle.host_collect.specs.Cutting.{can_join, cut, numbered}

@@ -75,6 +75,13 @@ impl Cutter {
         }
     }
 
+    /// How many items were taken.
+    pub fn taken(&self) -> u64
+        ensures { result ≡ self.now.taken }
+    {
+        self.taken
+    }
+
     /// Takes an item, whose length is at most 62, after fewer than 2^32 others. Gives the upload of the columns held where
     /// its column cannot join them: they are 16, or one has its key.
     ///

@@ -12,11 +12,11 @@ use Rattle.byte_fields.proofs.Steps.{bind_ok, guard_ok, guarded, ok_is}
 use Rattle.byte_fields.proofs.Numbers.{IsBytes-drop, IsBytes-take, IsBytes-rest, Takes-then, wide16, wide32, front_back, number_takes, number_again}
 use Rattle.lg_model.specs.declared.column.Bucket.{Bucket}
 use Rattle.lg_model.specs.declared.column.Key.{Key}
-use Rattle.lg_model.specs.Columns.{Cells}
+use Rattle.lg_model.specs.Columns.{Cells, cells_of}
 use Rattle.lg_model.specs.Sketch.{zero_bucket}
 use Rattle.sketchlet_wire.specs.declared.fault.WireFault.TheVariants.{Short, NotSketchlet, BadRows, BadWidth, BadIndex}
 use Rattle.sketchlet_wire.specs.Spelling.{FitsBucket, FitBuckets, FitsKey, AreCells, bucket_bytes, cells_bytes, cells_len, column_key_bytes}
-use Rattle.sketchlet_wire.specs.Reading.{mark_at, rows_at, width_at, bucket_from, buckets_from, cells_of_parts, cells_at, key_of_parts, key_at, admitted_key_at}
+use Rattle.sketchlet_wire.specs.Reading.{mark_at, rows_at, width_at, bucket_from, buckets_from, cells_at, key_of_parts, key_at, admitted_key_at}
 
 -- ---- marks and guarded fields
 
@@ -173,7 +173,7 @@ pub cells_length : (rows : ℕ) (cells : Cells) → AreCells rows cells → leng
 unfolding cells_bytes
 cells_length rows cells are = buckets_len cells.buckets ∙ ap (λ (n : ℕ). 6 * n) are.buckets
 
-buckets_read : {E : Type 0} (missing : E) (bs : List Bucket) (rest : List ℕ) → FitBuckets bs → cells_at missing (length bs) (flat_map bucket_bytes bs ++ rest) ≡ Ok (cells_of_parts bs, rest)
+buckets_read : {E : Type 0} (missing : E) (bs : List Bucket) (rest : List ℕ) → FitBuckets bs → cells_at missing (length bs) (flat_map bucket_bytes bs ++ rest) ≡ Ok (cells_of bs, rest)
 unfolding cells_at
 buckets_read missing bs rest fits =
     let long : ltb (length (flat_map bucket_bytes bs ++ rest)) (6 * length bs) ≡ false = le-ltb _ _ (omega (arith, buckets_len bs, length-append (flat_map bucket_bytes bs) rest)) in
@@ -188,7 +188,7 @@ pub cells_take : {E : Type 0} (missing : E) (rows : ℕ) (bytes : List ℕ) (x :
     → Takes bytes (cells_bytes x.0) x.1 × AreCells rows x.0
 unfolding cells_at cells_bytes
 cells_take missing rows bytes x fits e =
-    let made : Cells × List ℕ = (cells_of_parts (buckets_from rows bytes), drop (6 * rows) bytes) in
+    let made : Cells × List ℕ = (cells_of (buckets_from rows bytes), drop (6 * rows) bytes) in
     let g = guard_ok (ltb (length bytes) (6 * rows)) missing made x e in
     let t = buckets_take rows bytes fits (ltb-false _ _ g.0) in
     subst (λ (y : Cells × List ℕ). Takes bytes (cells_bytes y.0) y.1 × AreCells rows y.0) g.1 (t.0, record { buckets = t.1; fit = t.2 })

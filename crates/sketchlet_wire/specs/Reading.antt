@@ -7,7 +7,7 @@ use Rattle.lg_model.specs.declared.column.Bucket.{Bucket}
 use Rattle.lg_model.specs.declared.column.Key.{Key}
 use Rattle.lg_model.specs.declared.column.Dims.{Dims}
 use Rattle.lg_model.specs.declared.limits.TheConstants.{MOST_ROWS, MOST_WIDTH}
-use Rattle.lg_model.specs.Columns.{Cells, Column}
+use Rattle.lg_model.specs.Columns.{Cells, Column, cells_of}
 use Rattle.sketchlet_wire.specs.declared.fault.WireFault.{WireFault}
 use Rattle.sketchlet_wire.specs.declared.fault.WireFault.TheVariants.{Short, NotSketchlet, BadRows, BadWidth, BadIndex}
 use Rattle.sketchlet_wire.specs.Spelling.{cells_len, spelling_len}
@@ -39,14 +39,11 @@ abbrev pub buckets_from : ℕ → List ℕ → List Bucket
 buckets_from zero bytes = []
 buckets_from (suc n) bytes = bucket_from bytes ∷ buckets_from n (drop 6 bytes)
 
-abbrev pub cells_of_parts : List Bucket → Cells
-cells_of_parts buckets = record { buckets = buckets }
-
 -- The cells of so many rows, and the bytes after them.
 unfoldable pub cells_at : {E : Type 0} → (missing : E) → (rows : ℕ) → List ℕ → Result (Cells × List ℕ) E
 cells_at missing rows bytes =
     if nat_lt (length bytes) (cells_len rows) then Err missing
-    else Ok (cells_of_parts (buckets_from rows bytes), drop (cells_len rows) bytes)
+    else Ok (cells_of (buckets_from rows bytes), drop (cells_len rows) bytes)
 
 -- The letters and the version.
 unfoldable pub marks_at : List ℕ → Result (List ℕ) WireFault
