@@ -68,7 +68,7 @@ pub record StillSays (input : List ℕ) (taken : ℕ) (left : Option (List ℕ))
   pub all : taken + length bytes ≡ length input
   pub says : from_here (nat_le MOST_TEXT_BYTES (length input)) r (take (MOST_TEXT_BYTES - taken) bytes) ≡ reading input
 
--- So many bytes of the input were taken.
+-- This many bytes of the input were taken, and whatever follows them, the reader needs what they leave of it.
 pub record StillNeeds (input : List ℕ) (taken : ℕ) (left : Option (List ℕ)) (r : Reader) : Type 0 where
   pub left_is : left ≡ Some (drop taken input)
-  pub needs_so : deciding_len input + length r.pending.items ≡ taken + needs r (take (MOST_TEXT_BYTES - taken) (drop taken input))
+  pub needs_so : (rest : List ℕ) → deciding_len (take taken input ++ rest) + length r.pending.items ≡ taken + needs r (take (MOST_TEXT_BYTES - taken) rest)

@@ -1,5 +1,5 @@
 -- What a whole text says: its scenario, or its first faulty line and why.
-use Rattle.std.specs.Prelude.{◌≡◌, ℕ, ◌+◌, ◌≤◌, Bool, List, [], ◌∷◌, length, take, drop, Option, Some, Result, Ok, Err, nat_le, if◌then◌else◌}
+use Rattle.std.specs.Prelude.{◌≡◌, ℕ, ◌+◌, ◌<◌, ◌≤◌, Bool, List, [], ◌∷◌, ◌++◌, length, take, drop, Option, Some, Result, Ok, Err, nat_le, if◌then◌else◌}
 use Rattle.std.specs.Str.Lines.{strip_carriage_return}
 use Rattle.flow_key.specs.Words.{words_at}
 use Rattle.lg_model.specs.declared.limits.TheConstants.{MOST_TEXT_BYTES}
@@ -72,9 +72,15 @@ pub record IsTaken (input : List ℕ) (left : Option (List ℕ)) : Type 0 where
   pub left_is : left ≡ Some (drop taken input)
   pub decided : deciding_len input ≤ taken
 
--- The same where the answer is a scenario or a fault of the text.
+-- Some of the input was taken, and no line in it decides: whatever byte comes next, it counts too.
+pub record IsUndecided (input : List ℕ) (left : Option (List ℕ)) : Type 0 where
+  pub taken : ℕ
+  pub left_is : left ≡ Some (drop taken input)
+  pub undecided : (next : ℕ) → taken < deciding_len (take taken input ++ next ∷ [])
+
+-- What was taken where the answer is a scenario or a fault of the text, and where the source failed.
 abbrev pub Took : Result Scenario ScenarioFault → List ℕ → Option (List ℕ) → Type 0
 Took (Ok w) input left = IsTaken input left
 Took (Err (faults.Bad line why)) input left = IsTaken input left
-Took (Err faults.ReadFault) input left = Unit {0}
+Took (Err faults.ReadFault) input left = IsUndecided input left
 Took (Err faults.Memory) input left = Unit {0}

@@ -1,5 +1,6 @@
 //! Reading a scenario from a source.
-ghost use Rattle.std.specs.Prelude.{◌≡◌, ◌≤◌, IfSome, IfOk, IfErr};
+ghost use Rattle.std.specs.Prelude.{◌≡◌, ◌≤◌, IfSome, IfOk, IfErr, OnErr};
+ghost use Rattle.std.specs.Io.KnownBytes.{Keeps};
 ghost use Rattle.lg_base.specs.Causes.{Rose};
 ghost use Rattle.scenario_text.specs.declared.fault.ScenarioFault.TheVariants.{ReadFault};
 ghost use Rattle.scenario_text.specs.Sources.{Comes};
@@ -22,6 +23,7 @@ fn next_piece<S: Source>(
     ensures count { IfOk result (λ n. n ≤ want) }
     ensures bytes { IfOk result (λ n. IfSome (S.left source.old) (λ bytes. Comes n want bytes buf.new (S.left source.new))) }
     ensures fault { IfErr result (λ e. (e ≡ ReadFault) × Rose (S.faults source.old) (S.faults source.new)) }
+    ensures kept { OnErr result (Keeps (S.left source.old) (S.left source.new)) }
     ensures never_falls { S.faults source.old ≤ S.faults source.new }
 {
     match source.take(&mut buf[..want]) {
@@ -37,7 +39,7 @@ fn next_piece<S: Source>(
 /// `Bad` exactly where the input is no scenario text and the answer is neither of the two others: the first faulty
 /// line, from 1, and why. `ReadFault` only where the source's count of faults rose or stands at its last value.
 /// `Memory` where memory runs out. At `Ok` and at `Bad` the deciding prefix of the input was taken, and maybe
-/// some bytes after it.
+/// some bytes after it. At `ReadFault` no line in the bytes that were taken decides.
 pub fn read<S: Source>(alloc: Global, source: &mut S) -> Result<Scenario, ScenarioFault>
     ensures says { IfSome (S.left source.old) (λ input. Answers result (reading input)) }
     ensures took { IfSome (S.left source.old) (λ input. Took result input (S.left source.new)) }

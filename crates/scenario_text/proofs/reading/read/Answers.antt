@@ -1,11 +1,12 @@
 use Rattle.std.proofs.Common.{◌+◌, ◌≤◌, arith, ap, length, lit≤, Err}
 use Rattle.std.proofs.lemmas.List.{length-take}
+use Rattle.std.proofs.lemmas.Result.{err_from_is_err_and}
 use Rattle.lg_model.specs.declared.limits.TheConstants.{MOST_TEXT_BYTES}
 use Rattle.scenario_lines.specs.Draft.{view}
 use Rattle.scenario_text.specs.Text.{}
 use Rattle.scenario_text.proofs.LengthLemmas.{nothing_weighs}
 use Rattle.scenario_text.proofs.ReadLemmas.{says_first, says_more, says_done, says_bad, says_end}
-use Rattle.scenario_text.proofs.TookLemmas.{needs_first, needs_more, took_done, took_bad, took_end, took_stop}
+use Rattle.scenario_text.proofs.TookLemmas.{needs_first, needs_more, took_done, took_bad, took_end, took_stop, took_fault}
 use Rattle.scenario_text.proofs.reading.read.Goals as goal
 
 pub loop-taken-init : goal.loop-taken-init
@@ -58,7 +59,7 @@ loop-taken-preserved g c =
 pub returns-then-n-eq0-clause-took : goal.returns-then-n-eq0-clause-took
 returns-then-n-eq0-clause-took g c =
     took_end (g.S.Source.left c.args.source.now) (g.S.Source.left c.loop-taken.source) (g.S.Source.left c.next_piece.new.source) c.loop-taken.taken c.in_ok-n.n c.min-want.result c.loop-taken.reader c.next_piece.new.buf c.end.result
-    c.if-n-eq0.true (omega arith) c.loop-taken.invariant.reader.unbroken c.loop-taken.invariant.needs c.in_ok-n.ensures.bytes
+    c.end.ensures.no_fault c.if-n-eq0.true (omega arith) c.loop-taken.invariant.reader.unbroken c.loop-taken.invariant.needs c.in_ok-n.ensures.bytes
 
 pub returns-in-Ok-true-clause-took : goal.returns-in-Ok-true-clause-took
 returns-in-Ok-true-clause-took g c =
@@ -76,4 +77,10 @@ returns-in-Err-clause-took g c =
 pub returns-clause-took : goal.returns-clause-took
 returns-clause-took g c =
     took_stop (g.S.Source.left c.args.source.now) (g.S.Source.left c.loop-taken.source) c.loop-taken.taken c.loop-taken.reader (Err c.stop.result)
-    c.loop-taken-test.false c.loop-taken.invariant.reader.unbroken c.loop-taken.invariant.needs
+    c.stop.ensures.no_fault c.loop-taken-test.false c.loop-taken.invariant.reader.unbroken c.loop-taken.invariant.needs
+
+pub returns-in_err-n-clause-took : goal.returns-in_err-n-clause-took
+returns-in_err-n-clause-took g c =
+    let p = err_from_is_err_and c.from_residual.result c.from_residual.ensures.1 in
+    rw (p.1, p.2) (took_fault (g.S.Source.left c.args.source.now) (g.S.Source.left c.loop-taken.source) (g.S.Source.left c.next_piece.new.source) c.loop-taken.taken c.loop-taken.reader c.in_err-n.field-0.0
+    c.in_err-n.ensures.fault.0 c.loop-taken-test.true c.loop-taken.invariant.reader.unbroken c.loop-taken.invariant.needs c.in_err-n.ensures.kept)
