@@ -17,11 +17,11 @@ use Rattle.scenario_text.proofs.ReaderLemmas.{ends}
 use Rattle.scenario_text.proofs.SpentLemmas.{decide_ends}
 
 -- A text is one line, or a line and what follows its 0A.
-record Cut (xs : List ℕ) : Type 0 where
-  line : List ℕ
-  more : List ℕ
-  is : xs ≡ line ++ 10 ∷ more
-  unbroken : IsUnbroken line
+pub record Cut (xs : List ℕ) : Type 0 where
+  pub line : List ℕ
+  pub more : List ℕ
+  pub is : xs ≡ line ++ 10 ∷ more
+  pub unbroken : IsUnbroken line
 
 cut_more : (x : ℕ) (xs : List ℕ) → eqb x 10 ≡ false → IsUnbroken xs ⊎ Cut xs → IsUnbroken (x ∷ xs) ⊎ Cut (x ∷ xs)
 cut_more x xs e (inl h) = inl (All-cons (λ b. eqb b 10 ≡ false) x xs e h)
@@ -31,16 +31,16 @@ cut_here : (x : ℕ) (xs : List ℕ) (b : Bool) → eqb x 10 ≡ b → IsUnbroke
 cut_here x xs true e h = let is : x ≡ 10 = grind arith in inr (record { line = []; more = xs; is = ap (λ (y : ℕ). y ∷ xs) is; unbroken = All-nil (λ b. eqb b 10 ≡ false) })
 cut_here x xs false e h = cut_more x xs e h
 
-cut : (xs : List ℕ) → IsUnbroken xs ⊎ Cut xs
+pub cut : (xs : List ℕ) → IsUnbroken xs ⊎ Cut xs
 cut [] = inl (All-nil (λ b. eqb b 10 ≡ false))
 cut (x ∷ xs) = cut_here x xs (eqb x 10) refl (cut xs)
 
 -- one line alone
-alone : (s : State) (line : List ℕ) → IsUnbroken line → decide s (words_at 10 line) ≡ length line
+pub alone : (s : State) (line : List ℕ) → IsUnbroken line → decide s (words_at 10 line) ≡ length line
 unfolding decide
 alone s line unbroken = ap (decide s) (slice_split_none (λ b. eqb b 10) line unbroken)
 
-take_past : (line more : List ℕ) (e : ℕ) → take ((length line + 1) + e) (line ++ 10 ∷ more) ≡ line ++ 10 ∷ take e more
+pub take_past : (line more : List ℕ) (e : ℕ) → take ((length line + 1) + e) (line ++ 10 ∷ more) ≡ line ++ 10 ∷ take e more
 take_past [] more e = let k : (0 + 1) + e ≡ suc e = omega arith in ap (λ (n : ℕ). take n (10 ∷ more)) k
 take_past (x ∷ line) more e =
     let k : (suc (length line) + 1) + e ≡ suc ((length line + 1) + e) = omega arith in

@@ -13,3 +13,4 @@ pub mod GoodLines
 pub mod GoodText
 pub mod LengthLemmas
 pub mod InRangeLemmas
+pub mod ShortestLemmas

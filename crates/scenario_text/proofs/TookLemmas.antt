@@ -122,7 +122,7 @@ took_stop (Some input) left taken r res other full unbroken s =
 -- ---- a failed source
 
 -- a pending line needs one byte more, whatever it is
-one_more : (s : State) (line : List ℕ) (next : ℕ) → IsUnbroken line → (b : Bool) → eqb next 10 ≡ b → length line < decide s (words_at 10 (line ++ next ∷ []))
+pub one_more : (s : State) (line : List ℕ) (next : ℕ) → IsUnbroken line → (b : Bool) → eqb next 10 ≡ b → length line < decide s (words_at 10 (line ++ next ∷ []))
 one_more s line next unbroken true e =
     let is : next ≡ 10 = grind arith in
     let d = ap (λ (k : ℕ). decide s (words_at 10 (line ++ k ∷ []))) is ∙ decide_ends s line [] unbroken in

@@ -72,11 +72,20 @@ pub record IsTaken (input : List ℕ) (left : Option (List ℕ)) : Type 0 where
   pub left_is : left ≡ Some (drop taken input)
   pub decided : deciding_len input ≤ taken
 
--- Some of the input was taken, and no line in it decides: whatever byte comes next, it counts too.
+-- No line in the first n bytes decides: whatever byte comes after them, it counts too.
+abbrev pub DecideNothing : (input : List ℕ) (n : ℕ) → Type 0
+DecideNothing input n = (next : ℕ) → n < deciding_len (take n input ++ next ∷ [])
+
+-- The deciding prefix ends with 0A where it is not all that is looked at, and no shorter prefix decides.
+pub record IsShortest (input : List ℕ) : Type 0 where
+  pub ended : deciding_len input < length (take MOST_TEXT_BYTES input) → (front : List ℕ) × (deciding input ≡ front ++ 10 ∷ [])
+  pub none_before : (n : ℕ) → n < deciding_len input → DecideNothing input n
+
+-- Some of the input was taken, and decides nothing yet.
 pub record IsUndecided (input : List ℕ) (left : Option (List ℕ)) : Type 0 where
   pub taken : ℕ
   pub left_is : left ≡ Some (drop taken input)
-  pub undecided : (next : ℕ) → taken < deciding_len (take taken input ++ next ∷ [])
+  pub undecided : DecideNothing input taken
 
 -- What was taken where the answer is a scenario or a fault of the text, and where the source failed.
 abbrev pub Took : Result Scenario ScenarioFault → List ℕ → Option (List ℕ) → Type 0

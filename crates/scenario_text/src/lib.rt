@@ -30,7 +30,7 @@ mod tests;
 mod whys_tests;
 
 pub use fault::ScenarioFault;
-pub use laws::{prefix_decides, printed_is_read, worked_texts};
+pub use laws::{prefix_decides, prefix_is_shortest, printed_is_read, worked_texts};
 pub use lg_model::{
     Ask, Delays, Fate, Flow, HostLine, Letter, Letters, Path, Pick, Step,
 };
