@@ -34,6 +34,32 @@ fn the_last_line(rt: HostRuntime) -> Result<(), Fail> {
     Ok(())
 }
 
+// A path may go by 16 switches, and by no more.
+#[test]
+fn seventeen_switches(rt: HostRuntime) -> Result<(), Fail> {
+    let mut draft = Draft::new(rt.alloc());
+    for line in ["guardian 1", "shape 2 1 ports", "pick turns", "host 1"] {
+        draft.line(line.as_bytes())?;
+    }
+    for line in [
+        "switch 1", "switch 2", "switch 3", "switch 4", "switch 5", "switch 6", "switch 7",
+        "switch 8", "switch 9", "switch 10", "switch 11", "switch 12", "switch 13", "switch 14",
+        "switch 15", "switch 16", "switch 17",
+    ] {
+        draft.line(line.as_bytes())?;
+    }
+    draft.line(
+        b"flow 1 10.0.0.1 10.0.0.2 6 2 1 host 1 path 1 2 3 4 5 6 7 8 9 10 11 12 13 14 15 16",
+    )?;
+    assert_eq!(rt;
+        draft.line(
+            b"flow 2 10.0.0.1 10.0.0.2 6 2 1 host 1 path 1 2 3 4 5 6 7 8 9 10 11 12 13 14 15 16 17",
+        ),
+        Err(LineFault::Bad(Why::BadPath))
+    );
+    Ok(())
+}
+
 #[test]
 fn texts_of_the_whys(rt: HostRuntime) {
     for (why, text) in [

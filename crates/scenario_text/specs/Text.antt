@@ -1,7 +1,8 @@
 -- What a whole text says: its scenario, or its first faulty line and why.
-use Rattle.std.specs.Prelude.{◌≡◌, ℕ, ◌+◌, ◌≤◌, Bool, List, [], ◌∷◌, length, take, drop, Option, Some, Result, Ok, Err, nat_le, if◌then◌else◌}
+use Rattle.std.specs.Prelude.{◌≡◌, ℕ, ◌+◌, ◌<◌, ◌≤◌, Bool, List, [], ◌∷◌, ◌++◌, length, take, drop, Option, Some, Result, Ok, Err, nat_le, if◌then◌else◌}
 use Rattle.std.specs.Str.Lines.{strip_carriage_return}
 use Rattle.flow_key.specs.Words.{words_at}
+use Rattle.lg_model.specs.declared.limits.TheConstants.{MOST_TEXT_BYTES}
 use Rattle.lg_model.specs.Scenario.{Scenario}
 use Rattle.scenario_lines.specs.declared.why.Why.{Why}
 use Rattle.scenario_lines.specs.declared.why.Why.TheVariants.{NoDone, TooLong}
@@ -15,16 +16,12 @@ use Rattle.scenario_text.specs.declared.fault.ScenarioFault.TheVariants as fault
 abbrev pub Fault : Type 0
 Fault = ℕ × Why
 
--- The most bytes of a text.
-abbrev pub most_bytes : ℕ
-most_bytes = 16777216
-
 -- The last line of an input, which has no 0A.
 abbrev pub at_end : ℕ → Result State Why → Result Scenario Fault
 at_end n (Err why) = Err (n, why)
 at_end n (Ok s) = if is_done s.section then Ok (scenario_of s) else Err (n, NoDone)
 
--- What follows a line that has its 0A: nothing behind `done` or a fault, else the next line.
+-- What follows a line that has its 0A: nothing after `done` or a fault, else the next line.
 abbrev pub after_line : ℕ → Result State Why → (State → Result Scenario Fault) → Result Scenario Fault
 after_line n (Err why) next = Err (n, why)
 after_line n (Ok s) next = if is_done s.section then Ok (scenario_of s) else next s
@@ -39,7 +36,7 @@ lines_say long n s (part ∷ next ∷ parts) =
 
 -- What an input says: the scenario, or the first faulty line and why. Only the first 16,777,216 bytes are looked at.
 unfoldable pub reading : List ℕ → Result Scenario Fault
-reading input = lines_say (nat_le most_bytes (length input)) 1 start (words_at 10 (take most_bytes input))
+reading input = lines_say (nat_le MOST_TEXT_BYTES (length input)) 1 start (words_at 10 (take MOST_TEXT_BYTES input))
 
 -- ---- the deciding prefix
 
@@ -54,7 +51,7 @@ decide s (part ∷ []) = length part
 decide s (part ∷ next ∷ parts) = (length part + 1) + after_len (line_of s (strip_carriage_return part)) (λ t. decide t (next ∷ parts))
 
 unfoldable pub deciding_len : List ℕ → ℕ
-deciding_len input = decide start (words_at 10 (take most_bytes input))
+deciding_len input = decide start (words_at 10 (take MOST_TEXT_BYTES input))
 
 -- The deciding prefix of an input.
 abbrev pub deciding : List ℕ → List ℕ
@@ -75,9 +72,24 @@ pub record IsTaken (input : List ℕ) (left : Option (List ℕ)) : Type 0 where
   pub left_is : left ≡ Some (drop taken input)
   pub decided : deciding_len input ≤ taken
 
--- The same where the answer is a scenario or a fault of the text.
+-- No line in the first n bytes decides: whatever byte comes after them, it counts too.
+abbrev pub DecideNothing : (input : List ℕ) (n : ℕ) → Type 0
+DecideNothing input n = (next : ℕ) → n < deciding_len (take n input ++ next ∷ [])
+
+-- The deciding prefix ends with 0A where it is not all that is looked at, and no shorter prefix decides.
+pub record IsShortest (input : List ℕ) : Type 0 where
+  pub ended : deciding_len input < length (take MOST_TEXT_BYTES input) → (front : List ℕ) × (deciding input ≡ front ++ 10 ∷ [])
+  pub none_before : (n : ℕ) → n < deciding_len input → DecideNothing input n
+
+-- Some of the input was taken, and decides nothing yet.
+pub record IsUndecided (input : List ℕ) (left : Option (List ℕ)) : Type 0 where
+  pub taken : ℕ
+  pub left_is : left ≡ Some (drop taken input)
+  pub undecided : DecideNothing input taken
+
+-- What was taken where the answer is a scenario or a fault of the text, and where the source failed.
 abbrev pub Took : Result Scenario ScenarioFault → List ℕ → Option (List ℕ) → Type 0
 Took (Ok w) input left = IsTaken input left
 Took (Err (faults.Bad line why)) input left = IsTaken input left
-Took (Err faults.ReadFault) input left = Unit {0}
+Took (Err faults.ReadFault) input left = IsUndecided input left
 Took (Err faults.Memory) input left = Unit {0}

@@ -3,12 +3,18 @@ ghost use Rattle.std.specs.Prelude.{◌≡◌, ℕ, List, Ok};
 ghost use Rattle.lg_model.specs.Scenario.{Scenario};
 ghost use Rattle.scenario_parts.specs.Printed.{text_of};
 ghost use Rattle.scenario_parts.specs.Whole.{IsWhole};
-ghost use Rattle.scenario_text.specs.Text.{reading, deciding};
+ghost use Rattle.scenario_text.specs.Text.{reading, deciding, IsShortest};
 ghost use Rattle.scenario_text.specs.Worked.{WorkedTexts};
 
 /// The deciding prefix of an input says what the whole input says.
 pub fn prefix_decides()
     ensures { (input : List ℕ) → reading (deciding input) ≡ reading input }
+{}
+
+/// The deciding prefix is the shortest that decides: it ends with the 0A of its last line where it is not all that is
+/// looked at, and after a shorter prefix any byte would count.
+pub fn prefix_is_shortest()
+    ensures { (input : List ℕ) → IsShortest input }
 {}
 
 /// The reading, worked out by computation at texts with known answers.

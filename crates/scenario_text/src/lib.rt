@@ -5,7 +5,9 @@
 //! | [`Scenario`] | the parts of a scenario, which fit each other |
 //! | [`read`] | the scenario that the bytes of a source say |
 //! | [`print`] | the text of a scenario |
-//! | [`ScenarioFault`], [`Why`] | why there is none: a faulty line and its why, a failed source, want of memory |
+//! | [`Pick`], [`HostLine`], [`Flow`], [`Step`], [`Fate`], [`Ask`], [`Letter`] | the parts, and what is in them |
+//! | [`Letters`], [`Path`], [`Delays`] | short lists within the parts |
+//! | [`ScenarioFault`], [`Why`] | why there is none: a faulty line and its why, a failed source, no memory |
 #![tactic(auto)]
 
 mod fault;
@@ -28,7 +30,10 @@ mod tests;
 mod whys_tests;
 
 pub use fault::ScenarioFault;
-pub use laws::{prefix_decides, printed_is_read, worked_texts};
+pub use laws::{prefix_decides, prefix_is_shortest, printed_is_read, worked_texts};
+pub use lg_model::{
+    Ask, Delays, Fate, Flow, HostLine, Letter, Letters, Path, Pick, Step,
+};
 pub use printing::print;
 pub use reading::read;
 pub use scenario::Scenario;

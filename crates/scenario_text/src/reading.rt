@@ -1,5 +1,6 @@
 //! Reading a scenario from a source.
-ghost use Rattle.std.specs.Prelude.{◌≡◌, ◌≤◌, IfSome, IfOk, IfErr};
+ghost use Rattle.std.specs.Prelude.{◌≡◌, ◌≤◌, IfSome, IfOk, IfErr, OnErr};
+ghost use Rattle.std.specs.Io.KnownBytes.{Keeps};
 ghost use Rattle.lg_base.specs.Causes.{Rose};
 ghost use Rattle.scenario_text.specs.declared.fault.ScenarioFault.TheVariants.{ReadFault};
 ghost use Rattle.scenario_text.specs.Sources.{Comes};
@@ -9,9 +10,8 @@ use crate::fault::ScenarioFault;
 use crate::reader::Reader;
 use crate::scenario::Scenario;
 use lg_base::Source;
+use lg_model::limits::MOST_TEXT_BYTES;
 use std::alloc::Global;
-
-const MOST_BYTES: usize = 16_777_216;
 
 // The next bytes, at most `want`, at the front of `buf`.
 fn next_piece<S: Source>(
@@ -23,6 +23,7 @@ fn next_piece<S: Source>(
     ensures count { IfOk result (λ n. n ≤ want) }
     ensures bytes { IfOk result (λ n. IfSome (S.left source.old) (λ bytes. Comes n want bytes buf.new (S.left source.new))) }
     ensures fault { IfErr result (λ e. (e ≡ ReadFault) × Rose (S.faults source.old) (S.faults source.new)) }
+    ensures kept { OnErr result (Keeps (S.left source.old) (S.left source.new)) }
     ensures never_falls { S.faults source.old ≤ S.faults source.new }
 {
     match source.take(&mut buf[..want]) {
@@ -33,12 +34,12 @@ fn next_piece<S: Source>(
 
 /// The scenario that the bytes of a source say (docs/FORMATS.md, Scenario text). The input is all bytes that the
 /// source has left at the start of the call; they are taken in pieces of at most 4,096, and no piece is asked for
-/// behind the one that decides.
+/// after the one that decides.
 ///
 /// `Bad` exactly where the input is no scenario text and the answer is neither of the two others: the first faulty
 /// line, from 1, and why. `ReadFault` only where the source's count of faults rose or stands at its last value.
-/// `Memory` where no memory was found. At `Ok` and at `Bad` the deciding prefix of the input was taken, and maybe
-/// some bytes behind it.
+/// `Memory` where memory runs out. At `Ok` and at `Bad` the deciding prefix of the input was taken, and maybe
+/// some bytes after it. At `ReadFault` no line in the bytes that were taken decides.
 pub fn read<S: Source>(alloc: Global, source: &mut S) -> Result<Scenario, ScenarioFault>
     ensures says { IfSome (S.left source.old) (λ input. Answers result (reading input)) }
     ensures took { IfSome (S.left source.old) (λ input. Took result input (S.left source.new)) }
@@ -48,8 +49,8 @@ pub fn read<S: Source>(alloc: Global, source: &mut S) -> Result<Scenario, Scenar
     let mut reader = Reader::new(alloc);
     let mut buf = [0; 4096];
     let mut taken: usize = 0;
-    while taken < MOST_BYTES {
-        let want = (MOST_BYTES - taken).min(4096);
+    while taken < MOST_TEXT_BYTES {
+        let want = (MOST_TEXT_BYTES - taken).min(4096);
         let n = next_piece(source, &mut buf, want)?;
         if n == 0 {
             return reader.end();
