@@ -1,5 +1,5 @@
 -- How a call ends follows from what the command gave and what was done with it.
-use Rattle.std.specs.Prelude.{◌≡◌, ◌⊎◌, ◌↔◌, ℕ, List, Option, Some, None, IfSome, IfOk, IfErr, ◌≤◌, Result, Ok, Err}
+use Rattle.std.specs.Prelude.{◌≡◌, ℕ, List, Option, Some, None, IfSome, IfOk, IfErr, ◌≤◌, Result, Ok, Err}
 use Rattle.std.proofs.Common.{refl, sym, subst, rules, inl, inr}
 use Rattle.scenario_lines.specs.declared.why.Why.{Why}
 use Rattle.scenario_lines.specs.declared.why.Why.TheVariants.{NoDone}
@@ -10,10 +10,10 @@ use Rattle.guardian_run.specs.declared.refusal.Refusal.{Refusal}
 use Rattle.guardian_run.specs.declared.refusal.Refusal.TheVariants as refusals
 use Rattle.guardian_run.specs.declared.status.Status.{Status}
 use Rattle.guardian_run.specs.declared.status.Status.TheVariants as status
-use Rattle.guardian_run.specs.Changes.{Change, HasFailed, IsUntouched}
-use Rattle.guardian_run.specs.Commands.{HasOutput, IsCause, IsRefused}
+use Rattle.guardian_run.specs.Changes.{Change, IsUntouched}
+use Rattle.guardian_run.specs.Commands.{HasOutput, IsRefused}
 use Rattle.report_text.specs.Faults.{usage_line, read_fault_line, no_memory_line, scenario_line}
-use Rattle.guardian_run.specs.Ends.{IsOutputEnd, IsRead, IsAnswered, Says, Wrote, Draws, Puts, Ends}
+use Rattle.guardian_run.specs.Ends.{Puts, Ends}
 use Rattle.guardian_run.specs.Ending.{EndsWith, EndsWithLine, EndsRefused}
 
 -- what an input says that is told, and anything else where it is not

@@ -1,5 +1,5 @@
 -- How the program ends: what it answers and why, what it writes, and what it does to its source and its sink.
-use Rattle.std.specs.Prelude.{◌≡◌, ◌⊎◌, ◌↔◌, ℕ, ◌≤◌, List, map, Option, Some, None, IsSome, IfSome, Result, Ok, Err, IsOk, IsErr, IfOk}
+use Rattle.std.specs.Prelude.{◌≡◌, ◌⊎◌, ◌↔◌, ℕ, ◌≤◌, List, Option, Some, None, IsSome, IfSome, Result, Ok, Err, IsOk, IsErr, IfOk}
 use Rattle.lg_model.specs.Scenario.{Scenario}
 use Rattle.scenario_parts.specs.Whole.{IsWhole}
 use Rattle.scenario_text.specs.Text.{Fault, reading, IsTaken}

@@ -8,19 +8,16 @@ use std::alloc::Global;
 use std::test::Fail;
 
 // One switch and one flow, in a sketch of one column.
-const ONE: &str =
-    "guardian 1\nshape 2 1 ports\npick turns\nhost 1\nswitch 1\n\
+const ONE: &str = "guardian 1\nshape 2 1 ports\npick turns\nhost 1\nswitch 1\n\
         flow 1 10.0.0.1 10.0.0.2 6 2 1 host 1 path 1\n";
 
 // The same by two switches.
-const TWO: &str =
-    "guardian 1\nshape 2 1 ports\npick turns\nhost 1\nswitch 1\nswitch 2\n\
+const TWO: &str = "guardian 1\nshape 2 1 ports\npick turns\nhost 1\nswitch 1\nswitch 2\n\
         flow 1 10.0.0.1 10.0.0.2 6 2 1 host 1 path 1 2\n";
 
 // One switch and four flows, in a sketch of two columns. Flow 1 shares a bucket with flow 2 in row 1 and with flow 4 in
 // row 0.
-const FOUR: &str =
-    "guardian 1\nshape 2 2 ports\npick turns\nhost 1\nswitch 1\n\
+const FOUR: &str = "guardian 1\nshape 2 2 ports\npick turns\nhost 1\nswitch 1\n\
         flow 1 10.0.0.1 10.0.0.2 6 2 1 host 1 path 1\nflow 2 10.0.0.1 10.0.0.2 6 2 2 host 1 path 1\n\
         flow 3 10.0.0.1 10.0.0.2 6 3 2 host 1 path 1\nflow 4 10.0.0.1 10.0.0.2 6 3 1 host 1 path 1\n";
 
@@ -181,8 +178,7 @@ fn reports(rt: HostRuntime) -> Result<(), Fail> {
 
 #[test]
 fn a_switch_that_chooses_by_chance(rt: HostRuntime) -> Result<(), Fail> {
-    let text =
-        "guardian 1\nshape 2 1 ports\npick chance 5\nhost 1\nswitch 1\n\
+    let text = "guardian 1\nshape 2 1 ports\npick chance 5\nhost 1\nswitch 1\n\
             flow 1 10.0.0.1 10.0.0.2 6 2 1 host 1 path 1\npacket 1 1500 20\nend 1\npacket 1 100 5\n\
             ask 1 1 0\ndone\n";
     let (status, written) = told(
