@@ -10,7 +10,7 @@ use std::{env, io};
 // The exit status where the words cannot be had, as for want of memory.
 const NO_WORDS: u8 = 11;
 
-// The words behind the program's name.
+// The words after the program's name.
 fn words<R: Env + AllocGlobal>(rt: &R) -> io::Result<Vec<String>> {
     let mut words = Vec::new(rt.alloc());
     for word in env::args(rt)?.skip(1) {

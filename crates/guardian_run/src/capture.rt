@@ -39,11 +39,7 @@ fn put_host(
 }
 
 // The lines of all that came to the hosts, host after host, and how many they are. Memory where there is none for them.
-fn capture_lines(
-    alloc: Global,
-    scenario: &Scenario,
-    arrivals: &Arrivals,
-) -> Result<Vec<u8>, Memory>
+fn capture_lines(alloc: Global, scenario: &Scenario, arrivals: &Arrivals) -> Result<Vec<u8>, Memory>
     requires { HaveArrived scenario.now (picked scenario.now) arrivals.now.inboxes }
     ensures { IfOk result (λ text. text.items ≡ capture_of scenario.now) }
 {

@@ -57,11 +57,7 @@ fn keep_arrived(
 }
 
 // The book of all columns that came to the hosts. Memory where there is none for one of them.
-fn book_arrivals(
-    alloc: Global,
-    scenario: &Scenario,
-    arrivals: &Arrivals,
-) -> Result<Book, Memory>
+fn book_arrivals(alloc: Global, scenario: &Scenario, arrivals: &Arrivals) -> Result<Book, Memory>
     requires { HaveArrived scenario.now (picked scenario.now) arrivals.now.inboxes }
     ensures { IfOk result (λ b. b ≡ record { shape = scenario.now.shape; content = book_of scenario.now }) }
 {

@@ -1,5 +1,5 @@
 use Rattle.std.proofs.Common.{Some, refl, sym, ap, ◌∙◌, rules}
-use Rattle.guardian_words.specs.declared.commands.Command.TheVariants.{Run, Capture}
+use Rattle.guardian_words.specs.declared.commands.Command.TheVariants.{Capture}
 use Rattle.guardian_run.specs.Commands.{reading_command}
 use Rattle.guardian_run.proofs.EndLemmas.{ends_given, ends_unread}
 use Rattle.guardian_run.proofs.top.guardian_read.Goals as goal
