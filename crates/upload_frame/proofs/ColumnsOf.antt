@@ -154,8 +154,8 @@ pub law : LawOfColumns
 law = record {
   again = λ len cs upload each. columns_again len [] cs each upload.apart;
   taken = λ len n bytes cs fits e.
-    let t = columns_take len n [] bytes cs fits e in
-    subst (λ (x : List Column). (bytes ≡ flat_map spelling x) × AllByRecursion IsColumn x × (length x ≡ n)) (sym t.all_is) (t.bytes_are, t.each, t.count);
+      let t = columns_take len n [] bytes cs fits e in
+      subst (λ (x : List Column). (bytes ≡ flat_map spelling x) × AllByRecursion IsColumn x × (length x ≡ n)) (sym t.all_is) (t.bytes_are, t.each, t.count);
 }
 
 -- One sketchlet more of a list.

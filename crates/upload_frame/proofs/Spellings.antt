@@ -20,7 +20,7 @@ pub record IsFormat {F : Type 0} (format : Format F) (Is : F → Type 0) (kind :
   pub spelled : (f : F) → Is f → IsSpelled format.lens (kind f) (fields f)
   pub again : (f : F) → Is f → format.fields_at (length (fields f) + 1) (kind f) (fields f) ≡ Ok f
   pub takes : (len k : ℕ) (range : ℕ × ℕ) (body : List ℕ) (f : F) → IsBytes body → length body + 1 ≡ len → format.lens k ≡ Some range → fits_lens range len ≡ true
-    → format.fields_at len k body ≡ Ok f → Is f × (body ≡ fields f) × (k ≡ kind f)
+      → format.fields_at len k body ≡ Ok f → Is f × (body ≡ fields f) × (k ≡ kind f)
 
 pub frame_again : {F : Type 0} (format : Format F) (Is : F → Type 0) (kind : F → ℕ) (fields : F → List ℕ) → IsFormat format Is kind fields → (f : F) (rest : List ℕ) → Is f
     → front_at format (framed (kind f) (fields f) ++ rest) ≡ Ok (Some (f, length (framed (kind f) (fields f))))
@@ -91,11 +91,12 @@ streams_at {F = F} format Is kind fields of stream (f ∷ fs) end rest whole eac
 pub spellings : {F : Type 0} (format : Format F) (Is : F → Type 0) (kind : F → ℕ) (fields : F → List ℕ) → IsFormat format Is kind fields → LawOfFrames format Is (λ f. framed (kind f) (fields f))
 spellings {F = F} format Is kind fields of = record {
   apart = λ f g x y is-f is-g e.
-    let spelled : F → List ℕ = λ h. framed (kind h) (fields h) in
-    let both = front_is (f, length (spelled f)) (g, length (spelled g)) (sym (frame_again format Is kind fields of f x is-f) ∙ ap (front_at format) e ∙ frame_again format Is kind fields of g y is-g) in
-    let n : length (spelled f) ≡ length (spelled g) = ap (λ (p : F × ℕ). p.1) both in
-    (ap (λ (p : F × ℕ). p.0) both,
-      sym (drop_at (spelled f) x (length (spelled f)) refl) ∙ ap (drop (length (spelled f))) e ∙ ap (λ (k : ℕ). drop k (spelled g ++ y)) n ∙ drop_at (spelled g) y (length (spelled g)) refl);
+      let spelled : F → List ℕ = λ h. framed (kind h) (fields h) in
+      let both = front_is (f, length (spelled f)) (g, length (spelled g)) (sym (frame_again format Is kind fields of f x is-f) ∙ ap (front_at format) e ∙ frame_again format Is kind fields of g y is-g) in
+      let n : length (spelled f) ≡ length (spelled g) = ap (λ (p : F × ℕ). p.1) both in (
+        ap (λ (p : F × ℕ). p.0) both,
+        sym (drop_at (spelled f) x (length (spelled f)) refl) ∙ ap (drop (length (spelled f))) e ∙ ap (λ (k : ℕ). drop k (spelled g ++ y)) n ∙ drop_at (spelled g) y (length (spelled g)) refl,
+      );
   again = λ f rest is. frame_again format Is kind fields of f rest is;
   taken = λ stream fs end fits h. parts_of format Is kind fields of stream fs end fits h;
   given = λ stream fs end p. streams_at format Is kind fields of stream fs end p.rest p.whole p.each p.ends;

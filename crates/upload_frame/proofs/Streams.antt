@@ -67,8 +67,11 @@ more_by format stream fs rest taken None piece h = record {
   size = omega (arith, h.size, length-append rest piece, length-append stream piece);
 }
 more_by format stream fs rest taken (Some f) piece h = record {
-  frames = (h.frames.0 ++ piece, took_more format stream fs h.frames.0 piece h.frames.1,
-    (fronts format).more h.frames.0 piece (settled_by (front_at format h.frames.0) (faulty f) h.frames.2 tt) ∙ h.frames.2);
+  frames = (
+    h.frames.0 ++ piece,
+    took_more format stream fs h.frames.0 piece h.frames.1,
+    (fronts format).more h.frames.0 piece (settled_by (front_at format h.frames.0) (faulty f) h.frames.2 tt) ∙ h.frames.2,
+  );
   size = omega (arith, h.size, length-append stream piece);
 }
 
@@ -100,10 +103,11 @@ front_failed {F = F} format stream fs rest taken (Ok (Some x)) g new at h e = ab
 front_failed {F = F} format stream fs rest taken (Err f) g new at h e =
     let same : f ≡ g = fault_is {F = F} f g (ap (λ (s : Step F). s.0) e) in
     let now : reader_of [] taken (Some f) ≡ new = ap (λ (s : Step F). s.1) e in
-    let ends : front_at format rest ≡ faulty g = at ∙ ap faulty same in
-    (subst (λ (r : ReaderData). Follows format stream fs r) now (record { frames = (rest, h.frames, at); size = omega (arith, h.size) }),
+    let ends : front_at format rest ≡ faulty g = at ∙ ap faulty same in (
+      subst (λ (r : ReaderData). Follows format stream fs r) now (record { frames = (rest, h.frames, at); size = omega (arith, h.size) }),
       ap (λ (r : ReaderData). r.fault) (sym now) ∙ ap Some same,
-      streams_at format stream fs rest (Some g) h.frames ends)
+      streams_at format stream fs rest (Some g) h.frames ends,
+    )
 
 -- ---- the same, whatever fault there was
 
@@ -162,10 +166,11 @@ pub dry_none : {F : Type 0} (format : Format F) (stream : List ℕ) (fs : List F
     → Follows format stream fs new × (new.fault ≡ None) × IsDry format new.rest new.fault
 dry_none format stream fs old new h e =
     let p = none_by format stream fs old.rest old.taken old.fault new h e in
-    let fault : old.fault ≡ None = p.1 in
-    (subst (λ (r : ReaderData). Follows format stream fs r) p.0 h,
+    let fault : old.fault ≡ None = p.1 in (
+      subst (λ (r : ReaderData). Follows format stream fs r) p.0 h,
       ap (λ (r : ReaderData). r.fault) (sym p.0) ∙ fault,
-      subst (λ (r : ReaderData). IsDry format r.rest r.fault) p.0 (subst (λ (x : Option FrameFault). IsDry format old.rest x) (sym fault) p.2))
+      subst (λ (r : ReaderData). IsDry format r.rest r.fault) p.0 (subst (λ (x : Option FrameFault). IsDry format old.rest x) (sym fault) p.2),
+    )
 
 pub dry_failed : {F : Type 0} (format : Format F) (stream : List ℕ) (fs : List F) (old : ReaderData) (f : FrameFault) (new : ReaderData) → Follows format stream fs old → Stepped {F = F} format old (Err (next.Frame f)) new
     → Follows format stream fs new × (new.fault ≡ Some f) × IsDry format new.rest new.fault

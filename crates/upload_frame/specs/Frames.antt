@@ -80,7 +80,7 @@ upload_head_at len body = do
   seq ← number_at (Length len) w32 host.1
   count ← byte_at (Length len) seq.1
   if nat_lt count.0 1 || nat_lt MOST_UPLOAD_COLUMNS count.0 then Err (Count count.0)
-    else Ok (upload_head host.0 seq.0 count.0, count.1)
+      else Ok (upload_head host.0 seq.0 count.0, count.1)
 
 unfoldable pub upload_at : (len : ℕ) → List ℕ → Result Frame FrameFault
 upload_at len body = do
