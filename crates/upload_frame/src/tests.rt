@@ -245,6 +245,9 @@ fn writes_and_reads_replies(rt: HostRuntime) -> Result<(), Fail> {
 
 // The frames of a stream that comes in pieces of that length: how many, and whether all are uploads but the last.
 fn count_of(alloc: Global, stream: &[u8], len: usize) -> Result<usize, Fail> {
+    if len == 0 {
+        return Err("no length".into());
+    }
     let mut reader = Reader::new(alloc);
     let mut count = 0;
     for piece in stream.chunks(len) {
