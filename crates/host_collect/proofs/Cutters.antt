@@ -46,7 +46,8 @@ record IsState (host : ℕ) (given : List UploadData) (held : Piece) (state : Li
   given_is : given ≡ numbered host (reverse before)
   count : length given ≡ length (reverse before)
 
-state_of : (host count : ℕ) (given : List UploadData) (h : Column) (hs : Piece) (state : List Piece) → given ++ upload_of host count (h ∷ hs) ∷ [] ≡ numbered host (reverse state) → IsState host given (h ∷ hs) state
+state_of : (host count : ℕ) (given : List UploadData) (h : Column) (hs : Piece) (state : List Piece)
+    → given ++ upload_of host count (h ∷ hs) ∷ [] ≡ numbered host (reverse state) → IsState host given (h ∷ hs) state
 state_of host count given h hs [] e = absurd (omega (arith, ap length e, length-append given (upload_of host count (h ∷ hs) ∷ [])))
 state_of host count given h hs (p ∷ before) e =
     let parts : numbered host (reverse (p ∷ before)) ≡ numbered host (reverse before) ++ upload_of host (length (reverse before)) p ∷ [] =
@@ -84,7 +85,8 @@ first_more cs given host taken count c has =
           ∙ ap (λ (x : List Column). numbered host (cut (x ++ c ∷ []))) (sym none);
     }
 
-next_more : (cs : List Column) (given : List UploadData) (host taken count : ℕ) (h : Column) (hs : Piece) (c : Column) → HasCut cs given (cutter_of host taken count (h ∷ hs))
+next_more : (cs : List Column) (given : List UploadData) (host taken count : ℕ) (h : Column) (hs : Piece) (c : Column)
+    → HasCut cs given (cutter_of host taken count (h ∷ hs))
     → After cs given c (cutter_of host taken count (h ∷ hs)) (with_item (cutter_of host taken count (h ∷ hs)) c)
 next_more cs given host taken count h hs c has = by (can_join (h ∷ hs) c) refl
   where
@@ -105,7 +107,8 @@ next_more cs given host taken count h hs c has = by (can_join (h ∷ hs) c) refl
         ∙ ap (λ (t : Bool). reverse (cond t (((h ∷ hs) ++ c ∷ []) ∷ s.before) ((c ∷ []) ∷ (h ∷ hs) ∷ s.before))) can
 
     item : (b : Bool) → Option UploadData × CutterData
-    item b = cond b (None, record r { taken = taken + 1; held = (h ∷ hs) ++ c ∷ [] }) (Some (upload_of host count (h ∷ hs)), record r { taken = taken + 1; given = count + 1; held = c ∷ [] })
+    item b = cond b (None, record r { taken = taken + 1; held = (h ∷ hs) ++ c ∷ [] })
+        (Some (upload_of host count (h ∷ hs)), record r { taken = taken + 1; given = count + 1; held = c ∷ [] })
 
     joined : can_join (h ∷ hs) c ≡ true → After cs given c r (item true)
     joined can = record {
@@ -143,8 +146,12 @@ more : (cs : List Column) (given : List UploadData) (r : CutterData) (c : Column
 more cs given r c has = by r.held refl
   where
     by : (held : List Column) → held ≡ r.held → After cs given c r (with_item r c)
-    by [] e = subst (λ (x : CutterData). HasCut cs given x → After cs given c x (with_item x c)) (ap (λ (h : List Column). cutter_of r.host r.taken r.given h) e) (first_more cs given r.host r.taken r.given c) has
-    by (h ∷ hs) e = subst (λ (x : CutterData). HasCut cs given x → After cs given c x (with_item x c)) (ap (λ (h : List Column). cutter_of r.host r.taken r.given h) e) (next_more cs given r.host r.taken r.given h hs c) has
+    by [] e = subst (λ (x : CutterData). HasCut cs given x
+        → After cs given c x (with_item x c)) (ap (λ (h : List Column). cutter_of r.host r.taken r.given h) e)
+        (first_more cs given r.host r.taken r.given c) has
+    by (h ∷ hs) e = subst (λ (x : CutterData). HasCut cs given x
+        → After cs given c x (with_item x c)) (ap (λ (h : List Column). cutter_of r.host r.taken r.given h) e)
+        (next_more cs given r.host r.taken r.given h hs c) has
 
 pub law : LawOfCutters
 law = record {

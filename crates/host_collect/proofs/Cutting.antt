@@ -1,5 +1,6 @@
 -- The law of the cut.
-use Rattle.std.specs.Prelude.{◌≡◌, ℕ, zero, suc, ◌<◌, ◌≤◌, ◌&&◌, nat_lt, not, List, [], ◌∷◌, ◌++◌, length, reverse, fold, take, slice_index_or, Bool, true, false, cond}
+use Rattle.std.specs.Prelude.{◌≡◌, ℕ, zero, suc, ◌<◌, ◌≤◌, ◌&&◌, nat_lt, not, List, []}
+use Rattle.std.specs.Prelude.{◌∷◌, ◌++◌, length, reverse, fold, take, slice_index_or, Bool, true, false, cond}
 use Rattle.std.specs.List.{AllByRecursion, flat_map}
 use Rattle.std.proofs.Common.{refl, sym, ap, ◌∙◌, subst, arith, inl, inr, true≢false, length-append, take_all, append_assoc}
 use Rattle.std.proofs.Math.Seq.{get_or-append_seam}
@@ -17,7 +18,8 @@ abbrev flat : List Piece → List Column
 flat ps = flat_map (λ (p : Piece). p) ps
 
 flat_last : (p : Piece) (ps : List Piece) → flat (reverse (p ∷ ps)) ≡ flat (reverse ps) ++ p
-flat_last p ps = ap flat (reverse-append (p ∷ []) ps) ∙ flat_map-append (λ (p : Piece). p) (reverse ps) (p ∷ []) ∙ ap (λ (x : Piece). flat (reverse ps) ++ x) (append-nil p)
+flat_last p ps = ap flat (reverse-append (p ∷ []) ps) ∙ flat_map-append (λ (p : Piece). p) (reverse ps) (p ∷ [])
+    ∙ ap (λ (x : Piece). flat (reverse ps) ++ x) (append-nil p)
 
 one_more : (ps : List Piece) (c : Column) → flat (reverse (with_next ps c)) ≡ flat (reverse ps) ++ c ∷ []
 one_more [] c = refl
@@ -64,7 +66,8 @@ join_new : (p : Piece) (c : Column) → can_join p c ≡ true → holds_key c.ke
 join_new p c can = unnot (holds_key c.key p) (both (nat_lt (length p) MOST_UPLOAD_COLUMNS) (not (holds_key c.key p)) can).1
 
 -- A column that can join leaves no key twice.
-pub joined_apart : (p : Piece) (c : Column) → ((n : ℕ) → n < length p → is_twice p n ≡ false) → can_join p c ≡ true → (n : ℕ) → n < length (p ++ c ∷ []) → is_twice (p ++ c ∷ []) n ≡ false
+pub joined_apart : (p : Piece) (c : Column) → ((n : ℕ) → n < length p → is_twice p n ≡ false) → can_join p c ≡ true → (n : ℕ) → n < length (p ++ c ∷ [])
+    → is_twice (p ++ c ∷ []) n ≡ false
 joined_apart p c apart can n low =
     elim (cases_lt n (length p)) as (λ _. is_twice (p ++ c ∷ []) n ≡ false) [
       | inl early ↦
@@ -120,14 +123,16 @@ uploads_more (x ∷ xs) p h is = (h.0, uploads_more xs p h.1 is)
 turned_uploads : (ps : List Piece) → Kept ps → AllByRecursion IsUpload (reverse ps)
 turned_uploads [] k = tt
 turned_uploads (p ∷ []) k = (k, tt)
-turned_uploads (p ∷ q ∷ ps) k = subst (AllByRecursion IsUpload) (sym (reverse-append (p ∷ []) (q ∷ ps))) (uploads_more (reverse (q ∷ ps)) p (turned_uploads (q ∷ ps) k.2) k.0)
+turned_uploads (p ∷ q ∷ ps) k =
+    subst (AllByRecursion IsUpload) (sym (reverse-append (p ∷ []) (q ∷ ps))) (uploads_more (reverse (q ∷ ps)) p (turned_uploads (q ∷ ps) k.2) k.0)
 
 turned_longest : (ps : List Piece) → Kept ps → IsLongest (reverse ps)
 turned_longest [] k = tt
 turned_longest (p ∷ []) k = tt
 turned_longest (p ∷ q ∷ ps) k =
     let rest : IsLongest (reverse ps ++ q ∷ []) = subst IsLongest (reverse-append (q ∷ []) ps) (turned_longest (q ∷ ps) k.2) in
-    subst IsLongest (ap (λ (xs : List Piece). xs ++ p ∷ []) (sym (reverse-append (q ∷ []) ps)) ∙ sym (reverse-append (p ∷ []) (q ∷ ps))) (longest_more (reverse ps) q p rest k.1)
+    subst IsLongest (ap (λ (xs : List Piece). xs ++ p ∷ []) (sym (reverse-append (q ∷ []) ps))
+        ∙ sym (reverse-append (p ∷ []) (q ∷ ps))) (longest_more (reverse ps) q p rest k.1)
 
 pub cut_law : LawOfTheCut
 cut_law cs = record {

@@ -25,15 +25,18 @@ not_longer p c r n can within is =
           let len : length (take n (p ++ c ∷ r)) ≡ n = omega (arith, length-take n (p ++ c ∷ r), within) in
           let room : nat_lt (length p) MOST_UPLOAD_COLUMNS ≡ true = grind (arith, len, longer, is.few) in
           let held : holds_key c.key p ≡ true = no_join (nat_lt (length p) MOST_UPLOAD_COLUMNS) (holds_key c.key p) can room in
-          let at : slice_index_or (take n (p ++ c ∷ r)) (length p) no_column ≡ c = get_or-take n (p ++ c ∷ r) (length p) no_column longer ∙ get_or-append_seam p c r no_column in
-          let before : take (length p) (take n (p ++ c ∷ r)) ≡ p = take-take (length p) n (p ++ c ∷ r) (omega (arith, longer)) ∙ take_at p (c ∷ r) (length p) refl in
+          let at : slice_index_or (take n (p ++ c ∷ r)) (length p) no_column ≡ c =
+              get_or-take n (p ++ c ∷ r) (length p) no_column longer ∙ get_or-append_seam p c r no_column in
+          let before : take (length p) (take n (p ++ c ∷ r)) ≡ p =
+              take-take (length p) n (p ++ c ∷ r) (omega (arith, longer)) ∙ take_at p (c ∷ r) (length p) refl in
           let twice : is_twice (take n (p ++ c ∷ r)) (length p) ≡ true =
           ap (λ (x : Column). holds_key x.key (take (length p) (take n (p ++ c ∷ r)))) at ∙ ap (λ (xs : Piece). holds_key c.key xs) before ∙ held in
           absurd (true≢false (sym twice ∙ is.apart (length p) (omega (arith, len, longer))))
       | inr le ↦ le
     ]
 
-front_of : (p : Piece) (cs rest : List Column) → cs ≡ p ++ rest → IsUpload p → ((n : ℕ) → n ≤ length cs → IsUpload (take n cs) → n ≤ length p) → IsLongestFront cs p
+front_of : (p : Piece) (cs rest : List Column) → cs ≡ p ++ rest → IsUpload p → ((n : ℕ) → n ≤ length cs → IsUpload (take n cs) → n ≤ length p)
+    → IsLongestFront cs p
 front_of p cs rest e is longest = record { front = ap (take (length p)) e ∙ take_at p rest (length p) refl; upload = is; longest = longest }
 
 abbrev flat : List Piece → List Column
@@ -51,7 +54,8 @@ fronts (p ∷ (c ∷ q) ∷ ps) cs e uploads longest =
       rest,
       whole,
       front_of p cs rest whole uploads.0 (λ n within is.
-          not_longer p c (q ++ flat ps) n longest.0 (subst (λ (x : List Column). n ≤ length x) whole within) (subst (λ (x : List Column). IsUpload (take n x)) whole is)),
+          not_longer p c (q ++ flat ps) n longest.0 (subst (λ (x : List Column). n ≤ length x) whole within)
+              (subst (λ (x : List Column). IsUpload (take n x)) whole is)),
       fronts ((c ∷ q) ∷ ps) rest refl uploads.1 longest.1,
     )
 

@@ -1,5 +1,6 @@
 -- Lists of packed columns.
-use Rattle.std.specs.Prelude.{◌≡◌, ℕ, ◌+◌, ◌<◌, List, [], ◌∷◌, ◌++◌, Bool, true, false, cond, length, take, slice_index_or, Option, None, Some, Result, Ok, Err, IfOk, IfErr}
+use Rattle.std.specs.Prelude.{◌≡◌, ℕ, ◌+◌, ◌<◌, List, [], ◌∷◌, ◌++◌, Bool, true, false}
+use Rattle.std.specs.Prelude.{cond, length, take, slice_index_or, Option, None, Some, Result, Ok, Err, IfOk, IfErr}
 use Rattle.std.specs.Global.{Vec}
 use Rattle.std.proofs.Common.{refl, sym, ap, ◌∙◌, subst, arith}
 use Rattle.std.proofs.lemmas.List.{take_more}
@@ -57,7 +58,8 @@ matched_same (p ∷ items) (c ∷ cs) (d ∷ ds) a b =
 
 first_passes : (items : List Packed) (cs : List Column) (n : ℕ) (f : CollectFault) → Matched IsPacked items cs → IsFirstRefused items n f → f ≡ Memory
 first_passes items cs n f all first =
-    packed_passes (slice_index_or items n no_item) (slice_index_or cs n no_column) n f (matched_at IsPacked items cs n no_item no_column all first.inside) first.refused
+    packed_passes (slice_index_or items n no_item) (slice_index_or cs n no_column) n f
+        (matched_at IsPacked items cs n no_item no_column all first.inside) first.refused
 
 pub only : (host : ℕ) (items : List Packed) (cs : List Column) (r : Result (Vec UploadData) CollectFault) → Collected host items r → Matched IsPacked items cs
     → IfOk r (λ us. us.items ≡ numbered host (cut cs))
@@ -73,22 +75,27 @@ memory host items cs (Err Memory) h all = refl
 
 -- ---- what a loop over items keeps
 
-one_more : (items : List Packed) (i : ℕ) (cs : List Column) (c : Column) → i < length items → Matched IsPacked (take i items) cs → IsPacked (slice_index_or items i no_item) c
+one_more : (items : List Packed) (i : ℕ) (cs : List Column) (c : Column) → i < length items → Matched IsPacked (take i items) cs
+    → IsPacked (slice_index_or items i no_item) c
     → Matched IsPacked (take (i + 1) items) (cs ++ c ∷ [])
 one_more items i cs c low all one =
-    subst (λ (x : List Packed). Matched IsPacked x (cs ++ c ∷ [])) (sym (take_more items i no_item low)) (matched_push IsPacked (take i items) cs (slice_index_or items i no_item) c all one)
+    subst (λ (x : List Packed). Matched IsPacked x (cs ++ c ∷ [])) (sym (take_more items i no_item low))
+        (matched_push IsPacked (take i items) cs (slice_index_or items i no_item) c all one)
 
 same_host : (r : CutterData) (c : Column) → (with_item r c).1.host ≡ r.host
 same_host r c = by (can_join r.held c)
   where
-    by : (b : Bool) → (let x : Option UploadData × CutterData = cond b (None, record r { taken = r.taken + 1; held = r.held ++ c ∷ [] }) (Some (upload_of r.host r.given r.held), record r { taken = r.taken + 1; given = r.given + 1; held = c ∷ [] }) in x).1.host ≡ r.host
+    by : (b : Bool) → (let x : Option UploadData
+        × CutterData = cond b (None, record r { taken = r.taken + 1; held = r.held ++ c ∷ [] })
+        (Some (upload_of r.host r.given r.held), record r { taken = r.taken + 1; given = r.given + 1; held = c ∷ [] }) in x).1.host ≡ r.host
     by true = refl
     by false = refl
 
 abbrev pub Keeps : ℕ → List Packed → List UploadData → CutterData → Type 0
 Keeps host items given r = (cs : List Column) × Matched IsPacked items cs × HasCut cs given r × (r.host ≡ host)
 
-pub kept_more : (host : ℕ) (items : List Packed) (i : ℕ) (given : List UploadData) (r new : CutterData) (o : Option UploadData) → i < length items → Keeps host (take i items) given r
+pub kept_more : (host : ℕ) (items : List Packed) (i : ℕ) (given : List UploadData) (r new : CutterData) (o : Option UploadData) → i < length items
+    → Keeps host (take i items) given r
     → (x : Column) × IsPacked (slice_index_or items i no_item) x × (with_item r x ≡ (o, new)) → Keeps host (take (i + 1) items) (given ++ list_of o) new
 kept_more host items i given r new o low keeps step = (
   keeps.0 ++ step.0 ∷ [],
@@ -97,7 +104,8 @@ kept_more host items i given r new o low keeps step = (
   ap (λ (x : Option UploadData × CutterData). x.1.host) (sym step.2) ∙ same_host r step.0 ∙ keeps.3,
 )
 
-pub refused : (items : List Packed) (i n : ℕ) (cs : List Column) (f : CollectFault) → i < length items → Matched IsPacked (take i items) cs → n ≡ i → IsRefused n (slice_index_or items i no_item) f → AreRefused items f
+pub refused : (items : List Packed) (i n : ℕ) (cs : List Column) (f : CollectFault) → i < length items → Matched IsPacked (take i items) cs → n ≡ i
+    → IsRefused n (slice_index_or items i no_item) f → AreRefused items f
 refused items i n cs (Bad k f) low all n-is h =
     let k-is : i ≡ k = sym (h.0 ∙ n-is) in
     subst (λ (m : ℕ). IsFirstRefused items m (Bad k f)) k-is (record { inside = low; before = (cs, all); refused = (sym k-is, h.1) })

@@ -1,5 +1,6 @@
 -- A cutter: what it holds, and what an item does to it.
-use Rattle.std.specs.Prelude.{◌≡◌, ℕ, ◌+◌, ◌<◌, ◌≤◌, ◌^◌, false, List, [], ◌∷◌, ◌++◌, length, take, Option, None, Some, Result, Ok, Err, slice_index_or, if◌then◌else◌}
+use Rattle.std.specs.Prelude.{◌≡◌, ℕ, ◌+◌, ◌<◌, ◌≤◌, ◌^◌, false, List, [], ◌∷◌}
+use Rattle.std.specs.Prelude.{◌++◌, length, take, Option, None, Some, Result, Ok, Err, slice_index_or, if◌then◌else◌}
 use Rattle.std.specs.Global.{Vec}
 use Rattle.lg_model.specs.declared.limits.TheConstants.{MOST_UPLOAD_COLUMNS}
 use Rattle.lg_model.specs.Columns.{Column}
@@ -46,7 +47,8 @@ with_item r c =
 -- The item of that number is refused for this: it is no sketchlet, or bytes follow its sketchlet.
 abbrev pub IsRefused : (nth : ℕ) → Packed → CollectFault → Type 0
 IsRefused nth item (Bad n fault) = (n ≡ nth) × (column_reading (packed_bytes item) ≡ Err fault)
-IsRefused nth item (Longer n) = (n ≡ nth) × (c : Column) × (used : ℕ) × (column_reading (packed_bytes item) ≡ Ok (c, used)) × (used < length (packed_bytes item))
+IsRefused nth item (Longer n) = (n ≡ nth) × (c : Column) × (used : ℕ) × (column_reading (packed_bytes item) ≡ Ok (c, used))
+    × (used < length (packed_bytes item))
 IsRefused nth item Memory = Unit {0}
 
 -- What a push did: the item is the spelling of a column, which was taken; or it is refused, and nothing changed.

@@ -12,9 +12,11 @@ use Rattle.lg_model.specs.Columns.{Column}
 use Rattle.sketchlet_wire.specs.declared.fault.WireFault.{WireFault}
 use Rattle.sketchlet_wire.specs.declared.fault.WireFault.TheVariants.{Short}
 use Rattle.sketchlet_wire.specs.Spelling.{IsColumn, spelling, spelling_len, marks, dims_bytes, column_key_bytes, cells_bytes}
-use Rattle.sketchlet_wire.specs.Reading.{mark_at, rows_at, width_at, marks_at, dims_at, admitted_key_at, cells_at, dims_of_parts, column_of_parts, sketchlet_at, column_reading}
+use Rattle.sketchlet_wire.specs.Reading.{mark_at, rows_at, width_at, marks_at, dims_at}
+use Rattle.sketchlet_wire.specs.Reading.{admitted_key_at, cells_at, dims_of_parts, column_of_parts, sketchlet_at, column_reading}
 use Rattle.sketchlet_wire.specs.Law.{LawOfSpellings}
-use Rattle.sketchlet_wire.proofs.Fields.{mark_takes, mark_again, rows_takes, rows_again, width_takes, width_again, key_len, admitted_takes, admitted_again, cells_length, cells_again, cells_take}
+use Rattle.sketchlet_wire.proofs.Fields.{mark_takes, mark_again, rows_takes, rows_again, width_takes, width_again}
+use Rattle.sketchlet_wire.proofs.Fields.{key_len, admitted_takes, admitted_again, cells_length, cells_again, cells_take}
 
 marks_take : (bytes rest : List ℕ) → IsBytes bytes → marks_at bytes ≡ Ok rest → Takes bytes marks rest
 unfolding marks_at marks
@@ -30,7 +32,8 @@ marks_again : (rest : List ℕ) → marks_at (marks ++ rest) ≡ Ok rest
 unfolding marks_at marks
 marks_again rest = rw (mark_again 0 76 (71 ∷ 1 ∷ rest), mark_again 1 71 (1 ∷ rest), mark_again 2 1 rest) refl
 
-dims_take : (bytes : List ℕ) (x : Dims × List ℕ) → IsBytes bytes → dims_at bytes ≡ Ok x → Takes bytes (dims_bytes x.0) x.1 × (1 ≤ x.0.rows) × (x.0.rows ≤ 8) × (x.0.width ≤ 4096)
+dims_take : (bytes : List ℕ) (x : Dims × List ℕ) → IsBytes bytes → dims_at bytes ≡ Ok x → Takes bytes (dims_bytes x.0) x.1 × (1 ≤ x.0.rows) × (x.0.rows ≤ 8)
+    × (x.0.width ≤ 4096)
 unfolding dims_at dims_bytes
 dims_take bytes x fits e =
     let a = bind_ok (rows_at bytes) (λ rows. width_at rows.1 >>= λ width. Ok (dims_of_parts rows.0 width.0, width.1)) x e in
@@ -48,9 +51,13 @@ dims_again d rest r1 r8 w1 w4 = rw (rows_again d.rows (to_be_bytes w16 d.width +
 pub column_takes : (bytes : List ℕ) (x : Column × List ℕ) → IsBytes bytes → sketchlet_at bytes ≡ Ok x → Takes bytes (spelling x.0) x.1 × IsColumn x.0
 unfolding sketchlet_at
 column_takes bytes x fits e =
-    let a = bind_ok (marks_at bytes) (λ rest. dims_at rest >>= λ dims. admitted_key_at dims.0.width dims.1 >>= λ key. cells_at Short dims.0.rows key.1 >>= λ cells. Ok (column_of_parts key.0 dims.0 cells.0, cells.1)) x e in
-    let b = bind_ok (dims_at a.0) (λ dims. admitted_key_at dims.0.width dims.1 >>= λ key. cells_at Short dims.0.rows key.1 >>= λ cells. Ok (column_of_parts key.0 dims.0 cells.0, cells.1)) x a.2 in
-    let c = bind_ok (admitted_key_at b.0.0.width b.0.1) (λ key. cells_at Short b.0.0.rows key.1 >>= λ cells. Ok (column_of_parts key.0 b.0.0 cells.0, cells.1)) x b.2 in
+    let a = bind_ok (marks_at bytes)
+    (λ rest. dims_at rest >>= λ dims. admitted_key_at dims.0.width dims.1 >>= λ key. cells_at Short dims.0.rows key.1 >>= λ cells. Ok
+    (column_of_parts key.0 dims.0 cells.0, cells.1)) x e in
+    let b = bind_ok (dims_at a.0) (λ dims. admitted_key_at dims.0.width dims.1 >>= λ key. cells_at Short dims.0.rows key.1 >>= λ cells. Ok
+    (column_of_parts key.0 dims.0 cells.0, cells.1)) x a.2 in
+    let c = bind_ok (admitted_key_at b.0.0.width b.0.1)
+    (λ key. cells_at Short b.0.0.rows key.1 >>= λ cells. Ok (column_of_parts key.0 b.0.0 cells.0, cells.1)) x b.2 in
     let d = bind_ok (cells_at Short b.0.0.rows c.0.1) (λ cells. Ok (column_of_parts c.0.0 b.0.0 cells.0, cells.1)) x c.2 in
     let t1 = marks_take bytes a.0 fits a.1 in
     let t2 = dims_take a.0 b.0 t1.rest_fits b.1 in
@@ -115,9 +122,12 @@ is_found bytes (Err f) fits e = tt
 is_found bytes (Ok x) fits e =
     let a = bind_ok (sketchlet_at bytes) (λ x. Ok (x.0, spelling_len x.0.dims.rows)) x (sym e) in
     let t = column_takes bytes a.0 fits a.1 in
-    let whole : bytes ≡ spelling a.0.0 ++ drop (spelling_len a.0.0.dims.rows) bytes = t.0.parts ∙ ap (λ (r : List ℕ). spelling a.0.0 ++ r) (sym (ap (drop (spelling_len a.0.0.dims.rows)) t.0.parts ∙ drop_at (spelling a.0.0) a.0.1 (spelling_len a.0.0.dims.rows) (spelling_length a.0.0 t.1))) in
+    let whole : bytes ≡ spelling a.0.0 ++ drop (spelling_len a.0.0.dims.rows) bytes =
+    t.0.parts ∙ ap (λ (r : List ℕ). spelling a.0.0 ++ r) (sym (ap (drop (spelling_len a.0.0.dims.rows)) t.0.parts
+    ∙ drop_at (spelling a.0.0) a.0.1 (spelling_len a.0.0.dims.rows) (spelling_length a.0.0 t.1))) in
     let made : Column × ℕ = (a.0.0, spelling_len a.0.0.dims.rows) in
-    subst (λ (y : Column × ℕ). IsColumn y.0 × (bytes ≡ spelling y.0 ++ drop y.1 bytes) × (y.1 ≡ spelling_len y.0.dims.rows)) (ok_is made x a.2) (t.1, whole, refl)
+    subst (λ (y : Column × ℕ). IsColumn y.0 × (bytes ≡ spelling y.0 ++ drop y.1 bytes) × (y.1 ≡ spelling_len y.0.dims.rows)) (ok_is made x a.2)
+    (t.1, whole, refl)
 
 pub is_read : (bytes : List ℕ) (c : Column) (rest : List ℕ) → IsColumn c → bytes ≡ spelling c ++ rest → column_reading bytes ≡ Ok (c, spelling_len c.dims.rows)
 is_read bytes c rest is e = rw (e, column_again c rest is) refl
@@ -127,6 +137,7 @@ is_whole bytes c is e =
     let len : spelling_len c.dims.rows ≡ length bytes = sym (ap length e ∙ spelling_length c is) in
     is_read bytes c [] is (e ∙ sym (append-nil (spelling c))) ∙ ap (λ (n : ℕ). let r : Result (Column × ℕ) WireFault = Ok (c, n) in r) len
 
-pub is_inside : (bytes : List ℕ) (r : Result (Column × ℕ) WireFault) → IfOk r (λ x. IsColumn x.0 × (bytes ≡ spelling x.0 ++ drop x.1 bytes) × (x.1 ≡ spelling_len x.0.dims.rows)) → IfOk r (λ x. x.1 ≤ length bytes)
+pub is_inside : (bytes : List ℕ) (r : Result (Column × ℕ) WireFault) → IfOk r (λ x. IsColumn x.0 × (bytes ≡ spelling x.0 ++ drop x.1 bytes)
+    × (x.1 ≡ spelling_len x.0.dims.rows)) → IfOk r (λ x. x.1 ≤ length bytes)
 is_inside bytes (Err f) h = tt
 is_inside bytes (Ok x) h = omega (arith, ap length h.1, length-append (spelling x.0) (drop x.1 bytes), spelling_length x.0 h.0, h.2)

@@ -1,5 +1,6 @@
 -- A field that is read is the field that was written, and what was written is read again.
-use Rattle.std.proofs.Common.{◌≡◌, ℕ, zero, suc, ◌+◌, ◌*◌, ◌^◌, ◌<◌, ◌≤◌, ◌||◌, true, false, cond, ltb, eqb, List, [], ◌∷◌, ◌++◌, length, take, drop, Result, Ok, Err, refl, sym, ap, subst, ◌∙◌, append_assoc, arith}
+use Rattle.std.proofs.Common.{◌≡◌, ℕ, zero, suc, ◌+◌, ◌*◌, ◌^◌, ◌<◌, ◌≤◌, ◌||◌, true, false, cond, ltb, eqb, List}
+use Rattle.std.proofs.Common.{[], ◌∷◌, ◌++◌, length, take, drop, Result, Ok, Err, refl, sym, ap, subst, ◌∙◌, append_assoc, arith}
 use Rattle.std.specs.Int.{w16, w32, to_be_bytes}
 use Rattle.std.specs.List.{flat_map}
 use Rattle.std.proofs.lemmas.Bool.{ltb-false, ltb-true, le-ltb, eqb-true}
@@ -25,7 +26,8 @@ unfolding mark_at byte_at
 mark_takes place mark [] rest fits e = absurd cc
 mark_takes place mark (b ∷ bytes) rest fits e =
     let g = guarded (eqb b mark) (NotSketchlet place) bytes rest e in
-    subst (λ (r : List ℕ). Takes (b ∷ bytes) (mark ∷ []) r) g.1 (record { parts = ap (λ (m : ℕ). m ∷ bytes) (eqb-true _ _ g.0); rest_fits = IsBytes-rest b bytes fits })
+    subst (λ (r : List ℕ). Takes (b ∷ bytes) (mark ∷ []) r) g.1
+    (record { parts = ap (λ (m : ℕ). m ∷ bytes) (eqb-true _ _ g.0); rest_fits = IsBytes-rest b bytes fits })
 
 pub mark_again : (place mark : ℕ) (rest : List ℕ) → mark_at place mark (mark ∷ rest) ≡ Ok rest
 unfolding mark_at byte_at
@@ -37,7 +39,8 @@ rows_takes [] x fits e = absurd cc
 rows_takes (b ∷ bytes) x fits e =
     let made : ℕ × List ℕ = (b, bytes) in
     let g = guard_ok (ltb b 1 || ltb 8 b) (BadRows b) made x e in
-    subst (λ (y : ℕ × List ℕ). Takes (b ∷ bytes) (y.0 ∷ []) y.1 × (1 ≤ y.0) × (y.0 ≤ 8)) g.1 (record { parts = refl; rest_fits = IsBytes-rest b bytes fits }, grind (arith, g.0), grind (arith, g.0))
+    subst (λ (y : ℕ × List ℕ). Takes (b ∷ bytes) (y.0 ∷ []) y.1 × (1 ≤ y.0)
+    × (y.0 ≤ 8)) g.1 (record { parts = refl; rest_fits = IsBytes-rest b bytes fits }, grind (arith, g.0), grind (arith, g.0))
 
 pub rows_again : (n : ℕ) (rest : List ℕ) → 1 ≤ n → n ≤ 8 → rows_at (n ∷ rest) ≡ Ok (n, rest)
 unfolding rows_at byte_at
@@ -110,15 +113,28 @@ admitted_again width k rest fits inside =
 
 -- ---- buckets
 
-pub bucket_takes : (bytes : List ℕ) → IsBytes bytes → 6 ≤ length bytes → Takes bytes (bucket_bytes (bucket_from bytes)) (drop 6 bytes) × FitsBucket (bucket_from bytes)
+pub bucket_takes : (bytes : List ℕ) → IsBytes bytes → 6 ≤ length bytes → Takes bytes (bucket_bytes (bucket_from bytes)) (drop 6 bytes)
+    × FitsBucket (bucket_from bytes)
 unfolding bucket_bytes
 bucket_takes bytes fits long =
     let fits2 = IsBytes-drop 4 bytes fits in
     let a = front_back w32 (2 ^ 32) wide32 bytes fits (omega arith) in
     let b = front_back w16 (2 ^ 16) wide16 (drop 4 bytes) fits2 (omega (arith, length-drop 4 bytes)) in
-    let t1 : Takes bytes (to_be_bytes w32 (bucket_from bytes).bytes) (drop 4 bytes) = record { parts = sym (take-append-drop 4 bytes) ∙ ap (λ (t : List ℕ). t ++ drop 4 bytes) (sym a); rest_fits = fits2 } in
-    let t2 : Takes (drop 4 bytes) (to_be_bytes w16 (bucket_from bytes).delay) (drop 6 bytes) = record { parts = sym (take-append-drop 2 (drop 4 bytes)) ∙ ap (λ (r : List ℕ). take 2 (drop 4 bytes) ++ r) (drop-drop 2 4 bytes) ∙ ap (λ (t : List ℕ). t ++ drop 6 bytes) (sym b); rest_fits = IsBytes-drop 6 bytes fits } in
-    (Takes-then bytes _ (drop 4 bytes) _ (drop 6 bytes) t1 t2, record { bytes = wide32.below (take 4 bytes) (IsBytes-take 4 bytes fits); delay = wide16.below (take 2 (drop 4 bytes)) (IsBytes-take 2 (drop 4 bytes) fits2) })
+    let t1 : Takes bytes (to_be_bytes w32 (bucket_from bytes).bytes) (drop 4 bytes) =
+    record { parts = sym (take-append-drop 4 bytes) ∙ ap (λ (t : List ℕ). t ++ drop 4 bytes) (sym a); rest_fits = fits2 } in
+    let t2 : Takes (drop 4 bytes) (to_be_bytes w16 (bucket_from bytes).delay) (drop 6 bytes) =
+    record {
+      parts = sym (take-append-drop 2 (drop 4 bytes)) ∙ ap (λ (r : List ℕ). take 2 (drop 4 bytes) ++ r) (drop-drop 2 4 bytes)
+          ∙ ap (λ (t : List ℕ). t ++ drop 6 bytes) (sym b);
+      rest_fits = IsBytes-drop 6 bytes fits;
+    } in (
+      Takes-then bytes _ (drop 4 bytes) _ (drop 6 bytes) t1 t2,
+      record {
+        bytes = wide32.below (take 4 bytes) (IsBytes-take 4 bytes fits);
+        delay = wide16.below (take 2 (drop 4 bytes))
+            (IsBytes-take 2 (drop 4 bytes) fits2);
+      },
+    )
 
 pub zero_fits : FitsBucket zero_bucket
 zero_fits = record { bytes = omega arith; delay = omega arith }
@@ -141,10 +157,16 @@ buckets_take zero bytes fits long = (record { parts = refl; rest_fits = fits }, 
 buckets_take (suc n) bytes fits long =
     let one = bucket_takes bytes fits (omega arith) in
     let more = buckets_take n (drop 6 bytes) (IsBytes-drop 6 bytes fits) (omega (arith, length-drop 6 bytes)) in
-    let both = Takes-then bytes (bucket_bytes (bucket_from bytes)) (drop 6 bytes) (flat_map bucket_bytes (buckets_from n (drop 6 bytes))) (drop (6 * n) (drop 6 bytes)) one.0 more.0 in
+    let both = Takes-then bytes (bucket_bytes (bucket_from bytes)) (drop 6 bytes) (flat_map bucket_bytes (buckets_from n (drop 6 bytes)))
+    (drop (6 * n) (drop 6 bytes)) one.0 more.0 in
     let k : 6 + 6 * n ≡ 6 * suc n = omega arith in
-    let e : drop (6 * n) (drop 6 bytes) ≡ drop (6 * suc n) bytes = drop-drop (6 * n) 6 bytes ∙ ap (λ (m : ℕ). drop m bytes) k in
-    (rw flat_map-cons (subst (λ (r : List ℕ). Takes bytes (bucket_bytes (bucket_from bytes) ++ flat_map bucket_bytes (buckets_from n (drop 6 bytes))) r) e both), ap suc more.1, fit_more (bucket_from bytes) (buckets_from n (drop 6 bytes)) one.1 more.2)
+    let e : drop (6 * n) (drop 6 bytes) ≡ drop (6 * suc n) bytes = drop-drop (6 * n) 6 bytes ∙ ap (λ (m : ℕ). drop m bytes) k in (
+      rw flat_map-cons (subst (λ (r : List ℕ). Takes bytes
+          (bucket_bytes (bucket_from bytes) ++ flat_map bucket_bytes (buckets_from n (drop 6 bytes))) r) e both),
+      ap suc more.1,
+      fit_more (bucket_from bytes)
+          (buckets_from n (drop 6 bytes)) one.1 more.2,
+    )
 
 pub bucket_len : (b : Bucket) → length (bucket_bytes b) ≡ 6
 unfolding bucket_bytes
@@ -157,10 +179,14 @@ bucket_is b rest fits = λ i. record { bytes = from_be_bytes-to_be_bytes_4 b.byt
 pub buckets_again : (bs : List Bucket) (rest : List ℕ) → FitBuckets bs → buckets_from (length bs) (flat_map bucket_bytes bs ++ rest) ≡ bs
 buckets_again [] rest fits = refl
 buckets_again (b ∷ bs) rest fits =
-    let regrouped : flat_map bucket_bytes (b ∷ bs) ++ rest ≡ bucket_bytes b ++ (flat_map bucket_bytes bs ++ rest) = ap (λ (x : List ℕ). x ++ rest) (flat_map-cons bucket_bytes b bs) ∙ append_assoc (bucket_bytes b) (flat_map bucket_bytes bs) rest in
+    let regrouped : flat_map bucket_bytes (b ∷ bs) ++ rest ≡ bucket_bytes b ++ (flat_map bucket_bytes bs ++ rest) =
+    ap (λ (x : List ℕ). x ++ rest) (flat_map-cons bucket_bytes b bs) ∙ append_assoc (bucket_bytes b) (flat_map bucket_bytes bs) rest in
     let one = bucket_is b (flat_map bucket_bytes bs ++ rest) (fits 0) in
     let more = buckets_again bs rest (λ i. fits (suc i)) in
-    ap (buckets_from (suc (length bs))) regrouped ∙ ap (λ (r : List ℕ). bucket_from (bucket_bytes b ++ (flat_map bucket_bytes bs ++ rest)) ∷ buckets_from (length bs) r) (drop_at (bucket_bytes b) (flat_map bucket_bytes bs ++ rest) 6 (bucket_len b)) ∙ ap (λ (x : Bucket). x ∷ buckets_from (length bs) (flat_map bucket_bytes bs ++ rest)) one ∙ ap (λ (x : List Bucket). b ∷ x) more
+    ap (buckets_from (suc (length bs))) regrouped
+    ∙ ap (λ (r : List ℕ). bucket_from (bucket_bytes b ++ (flat_map bucket_bytes bs ++ rest)) ∷ buckets_from (length bs) r)
+    (drop_at (bucket_bytes b) (flat_map bucket_bytes bs ++ rest) 6 (bucket_len b))
+    ∙ ap (λ (x : Bucket). x ∷ buckets_from (length bs) (flat_map bucket_bytes bs ++ rest)) one ∙ ap (λ (x : List Bucket). b ∷ x) more
 
 pub buckets_len : (bs : List Bucket) → length (flat_map bucket_bytes bs) ≡ 6 * length bs
 unfolding bucket_bytes
@@ -173,13 +199,16 @@ pub cells_length : (rows : ℕ) (cells : Cells) → AreCells rows cells → leng
 unfolding cells_bytes
 cells_length rows cells are = buckets_len cells.buckets ∙ ap (λ (n : ℕ). 6 * n) are.buckets
 
-buckets_read : {E : Type 0} (missing : E) (bs : List Bucket) (rest : List ℕ) → FitBuckets bs → cells_at missing (length bs) (flat_map bucket_bytes bs ++ rest) ≡ Ok (cells_of bs, rest)
+buckets_read : {E : Type 0} (missing : E) (bs : List Bucket) (rest : List ℕ) → FitBuckets bs
+    → cells_at missing (length bs) (flat_map bucket_bytes bs ++ rest) ≡ Ok (cells_of bs, rest)
 unfolding cells_at
 buckets_read missing bs rest fits =
-    let long : ltb (length (flat_map bucket_bytes bs ++ rest)) (6 * length bs) ≡ false = le-ltb _ _ (omega (arith, buckets_len bs, length-append (flat_map bucket_bytes bs) rest)) in
+    let long : ltb (length (flat_map bucket_bytes bs ++ rest)) (6 * length bs) ≡ false =
+    le-ltb _ _ (omega (arith, buckets_len bs, length-append (flat_map bucket_bytes bs) rest)) in
     rw (long, buckets_again bs rest fits, drop_at (flat_map bucket_bytes bs) rest (6 * length bs) (buckets_len bs)) refl
 
-pub cells_again : {E : Type 0} (missing : E) (rows : ℕ) (cells : Cells) (rest : List ℕ) → AreCells rows cells → cells_at missing rows (cells_bytes cells ++ rest) ≡ Ok (cells, rest)
+pub cells_again : {E : Type 0} (missing : E) (rows : ℕ) (cells : Cells) (rest : List ℕ) → AreCells rows cells
+    → cells_at missing rows (cells_bytes cells ++ rest) ≡ Ok (cells, rest)
 unfolding cells_bytes
 cells_again missing rows cells rest are =
     ap (λ (n : ℕ). cells_at missing n (flat_map bucket_bytes cells.buckets ++ rest)) (sym are.buckets) ∙ buckets_read missing cells.buckets rest are.fit

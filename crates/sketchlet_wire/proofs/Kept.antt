@@ -1,5 +1,6 @@
 -- How a column is kept and written, over plain lists.
-use Rattle.std.proofs.Common.{◌≡◌, ℕ, get_or, suc, ◌+◌, ◌-◌, ◌*◌, ◌^◌, ◌<◌, ◌≤◌, List, [], ◌∷◌, ◌++◌, length, take, drop, replicate, slice_set, refl, sym, ap, ◌∙◌, append_assoc, zero, arith}
+use Rattle.std.proofs.Common.{◌≡◌, ℕ, get_or, suc, ◌+◌, ◌-◌, ◌*◌, ◌^◌, ◌<◌, ◌≤◌, List, [], ◌∷◌}
+use Rattle.std.proofs.Common.{◌++◌, length, take, drop, replicate, slice_set, refl, sym, ap, ◌∙◌, append_assoc, zero, arith}
 use Rattle.std.proofs.Math.Numerals.{add-one}
 use Rattle.std.specs.List.{flat_map}
 use Rattle.std.proofs.lemmas.List.{take_at, drop_at, length-append, length-take, length-drop, drop-drop, drop-replicate, set_at, append-nil, nil_from_length}
@@ -25,7 +26,8 @@ sub_zeros (suc (suc (suc (suc (suc (suc zero)))))) lt = refl
 sub_zeros (suc (suc (suc (suc (suc (suc (suc zero))))))) lt = refl
 sub_zeros (suc (suc (suc (suc (suc (suc (suc (suc n)))))))) lt = absurd (omega arith)
 
-pub is_kept : (key : Key) (dims : Dims) (buckets : List Bucket) → IsAdmitted key dims → key.switch < 2 ^ 16 → key.epoch < 2 ^ 32 → length buckets ≡ 8 → FitBuckets buckets
+pub is_kept : (key : Key) (dims : Dims) (buckets : List Bucket) → IsAdmitted key dims → key.switch < 2 ^ 16 → key.epoch < 2 ^ 32 → length buckets ≡ 8
+    → FitBuckets buckets
     → drop dims.rows buckets ≡ drop dims.rows zeros → IsKept key dims buckets
 is_kept key dims buckets ok switch epoch long fits past =
     let few = ok.few_rows in
@@ -47,7 +49,8 @@ pub cleared : (n : ℕ) (buckets new : List Bucket) → n ≤ 8 → length bucke
     → drop n (put_mid n (8 - n) buckets new) ≡ drop n zeros
 cleared n buckets new few long new-is =
     let len : length (mid_of n (8 - n) buckets) ≡ 8 - n = omega (arith, length-take (8 - n) (drop n buckets), length-drop n buckets) in
-    let end : drop (8 - n) (drop n buckets) ≡ [] = nil_from_length (drop (8 - n) (drop n buckets)) (omega (arith, length-drop (8 - n) (drop n buckets), length-drop n buckets)) in
+    let end : drop (8 - n) (drop n buckets) ≡ [] =
+    nil_from_length (drop (8 - n) (drop n buckets)) (omega (arith, length-drop (8 - n) (drop n buckets), length-drop n buckets)) in
     drop_at (take n buckets) (new ++ drop (8 - n) (drop n buckets)) n (omega (arith, length-take n buckets))
     ∙ ap (λ (x : List Bucket). new ++ x) end ∙ append-nil new ∙ new-is ∙ ap (λ (k : ℕ). replicate k zero_bucket) len ∙ sym (drop-replicate n 8 zero_bucket)
 
@@ -86,7 +89,8 @@ put_there front text out old new n k t m len so_far fits k-is m-is new-is =
     ap (put_mid n k out) (new-is ∙ ap (λ (x : List ℕ). text ++ drop t x) mid) ∙ put_on front text out old n k t m len so_far fits k-is m-is
 
 -- one bucket more is written
-pub bucket_more : (out old new : List ℕ) (bs : List Bucket) (b : Bucket) (i n k : ℕ) → n ≡ 6 * i → i < length bs → 6 * length bs ≤ length old → k ≡ length old - n → b ≡ get_or bs i zero_bucket
+pub bucket_more : (out old new : List ℕ) (bs : List Bucket) (b : Bucket) (i n k : ℕ) → n ≡ 6 * i → i < length bs → 6 * length bs ≤ length old
+    → k ≡ length old - n → b ≡ get_or bs i zero_bucket
     → out ≡ flat_map bucket_bytes (take i bs) ++ drop (6 * i) old → new ≡ bucket_bytes b ++ drop 6 (mid_of n k out)
     → put_mid n k out new ≡ flat_map bucket_bytes (take (i + 1) bs) ++ drop (6 * (i + 1)) old
 bucket_more out old new bs b i n k n-is lt fits k-is b-is so_far new-is =
@@ -95,16 +99,19 @@ bucket_more out old new bs b i n k n-is lt fits k-is b-is so_far new-is =
     let so_far2 : out ≡ F ++ drop n old = so_far ∙ ap (λ (x : ℕ). F ++ drop x old) (sym n-is) in
     let taken : take (i + 1) bs ≡ take i bs ++ b ∷ [] = take_more bs i zero_bucket lt ∙ ap (λ (x : Bucket). take i bs ++ x ∷ []) (sym b-is) in
     let single : flat_map bucket_bytes (b ∷ []) ≡ bucket_bytes b = flat_map-cons bucket_bytes b [] ∙ append-nil (bucket_bytes b) in
-    let more : flat_map bucket_bytes (take (i + 1) bs) ≡ F ++ bucket_bytes b = ap (flat_map bucket_bytes) taken ∙ flat_map-append bucket_bytes (take i bs) (b ∷ []) ∙ ap (λ (x : List ℕ). F ++ x) single in
+    let more : flat_map bucket_bytes (take (i + 1) bs) ≡ F ++ bucket_bytes b =
+    ap (flat_map bucket_bytes) taken ∙ flat_map-append bucket_bytes (take i bs) (b ∷ []) ∙ ap (λ (x : List ℕ). F ++ x) single in
     put_there F (bucket_bytes b) out old new n k 6 (6 * (i + 1)) len so_far2 (omega (arith, n-is, lt, fits)) k-is (omega (arith, n-is)) new-is
     ∙ ap (λ (x : List ℕ). x ++ drop (6 * (i + 1)) old) (sym more)
 
 -- the cells are written after the head
-pub cells_put : (a d key cells out old new : List ℕ) (n : ℕ) → length a + (length d + length key) ≡ 14 → length old ≡ 62 → out ≡ a ++ (d ++ (key ++ drop 14 old))
+pub cells_put : (a d key cells out old new : List ℕ) (n : ℕ) → length a + (length d + length key) ≡ 14 → length old ≡ 62
+    → out ≡ a ++ (d ++ (key ++ drop 14 old))
     → new ≡ cells ++ drop n (mid_of 14 48 out) → put_mid 14 48 out new ≡ (a ++ (d ++ (key ++ cells))) ++ drop (14 + n) old
 cells_put a d key cells out old new n head old-len so_far new-is =
     let front : List ℕ = a ++ (d ++ key) in
     let len : length front ≡ 14 = omega (arith, length-append a (d ++ key), length-append d key, head) in
     let so_far2 : out ≡ front ++ drop 14 old = so_far ∙ simp append_assoc in
     let regroup : front ++ cells ≡ a ++ (d ++ (key ++ cells)) = simp append_assoc in
-    put_there front cells out old new 14 48 n (14 + n) len so_far2 (omega (arith, old-len)) (omega (arith, old-len)) refl new-is ∙ ap (λ (x : List ℕ). x ++ drop (14 + n) old) regroup
+    put_there front cells out old new 14 48 n (14 + n) len so_far2 (omega (arith, old-len)) (omega (arith, old-len)) refl new-is
+    ∙ ap (λ (x : List ℕ). x ++ drop (14 + n) old) regroup

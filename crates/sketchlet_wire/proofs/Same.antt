@@ -40,7 +40,8 @@ eq_column a b = (eqb a.key.switch b.key.switch && (eqb a.key.epoch b.key.epoch &
 
 same_filled : (a b : Column) → a.dims ≡ b.dims → filled a.dims a.cells ≡ filled b.dims b.cells → a.cells ≡ b.cells
 same_filled a b dims e = λ i. record {
-  buckets = append_cancel_right a.cells.buckets b.cells.buckets (drop b.dims.rows zeros) (ap (λ (d : Dims). a.cells.buckets ++ drop d.rows zeros) (sym dims) ∙ e) i;
+  buckets = append_cancel_right a.cells.buckets b.cells.buckets (drop b.dims.rows zeros) (ap (λ (d : Dims). a.cells.buckets ++ drop d.rows zeros) (sym dims)
+      ∙ e) i;
 }
 
 pub column_same : (a b : Column) → Decides (eq_column a b) (a ≡ b)
@@ -48,4 +49,5 @@ column_same a b =
     Decides-like (eq_column a b)
     (λ h i. record { key = h.0 i; dims = h.1.0 i; cells = same_filled a b h.1.0 h.1.1 i })
     (λ e. (ap (λ (c : Column). c.key) e, (ap (λ (c : Column). c.dims) e, ap (λ (c : Column). filled c.dims c.cells) e)))
-    (Decides-and _ _ (key_same a.key b.key) (Decides-and _ _ (dims_same a.dims b.dims) (pointwise_decides bucket_same (filled a.dims a.cells) (filled b.dims b.cells))))
+    (Decides-and _ _ (key_same a.key b.key)
+    (Decides-and _ _ (dims_same a.dims b.dims) (pointwise_decides bucket_same (filled a.dims a.cells) (filled b.dims b.cells))))

@@ -13,7 +13,11 @@ abbrev pub worked_bucket : Bucket
 worked_bucket = record { bytes = 1500; delay = 20 }
 
 abbrev pub worked : Column
-worked = record { key = record { switch = 1; epoch = 0; index = 0 }; dims = record { rows = 2; width = 1 }; cells = record { buckets = worked_bucket ∷ worked_bucket ∷ [] } }
+worked = record {
+  key = record { switch = 1; epoch = 0; index = 0 };
+  dims = record { rows = 2; width = 1 };
+  cells = record { buckets = worked_bucket ∷ worked_bucket ∷ [] };
+}
 
 -- Two rows with the sum 000005dc and the maximum 0014.
 abbrev pub two_rows : List ℕ

@@ -4,7 +4,8 @@ ghost use Rattle.byte_fields.specs.Reading.{Gives};
 ghost use Rattle.lg_model.specs.declared.limits.TheConstants.{MOST_ROWS, MOST_WIDTH};
 ghost use Rattle.lg_model.specs.Columns.{Column as ColumnOfModel};
 ghost use Rattle.sketchlet_wire.specs.Spelling.{IsColumn, spelling, spelling_len, IsDims};
-ghost use Rattle.sketchlet_wire.specs.Reading.{mark_at, rows_at, width_at, marks_at, dims_at, admitted_key_at, sketchlet_at, column_reading};
+ghost use Rattle.sketchlet_wire.specs.Reading.{mark_at, rows_at, width_at, marks_at, dims_at};
+ghost use Rattle.sketchlet_wire.specs.Reading.{admitted_key_at, sketchlet_at, column_reading};
 
 use crate::cells::take_cells;
 use crate::column::Column;

@@ -18,7 +18,7 @@ fn kind_of(hash: Hash) -> (u8, u64)
 }
 
 /// Writes the 12 bytes of a shape at the front of the bytes, of which there are as many: the rows in 1, the width in 2,
-/// the kind of the hash in 1 and its seed in 8. The others stay (docs/FORMATS.md, Frames).
+/// the kind of the hash in 1 and its seed in 8. The others stay (docs/FORMATS.md, Shape).
 #[tactic(auto, unfolding(crate::specs::Spelling::dims_bytes, crate::specs::ShapeFields::shape_bytes))]
 pub fn put_shape(out: &mut [u8], shape: &Shape)
     requires { 12 ≤ length out.old }

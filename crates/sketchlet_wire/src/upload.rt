@@ -66,7 +66,9 @@ impl Upload {
     /// An upload of these columns in their order, with the host's name and the number of the upload at this host. The columns
     /// come back, as they were, exactly where they are none, more than 16, or two have one key. Takes no memory.
     pub fn new(host: u16, seq: u32, columns: Vec<Column>) -> Result<Upload, Vec<Column>>
-        ensures { MatchResult result (λ u. IsUpload columns.items × (u ≡ upload_of host seq columns.items)) (λ back. (IsUpload columns.items → ⊥) × (back ≡ columns)) }
+        ensures { MatchResult result
+            (λ u. IsUpload columns.items × (u ≡ upload_of host seq columns.items))
+            (λ back. (IsUpload columns.items → ⊥) × (back ≡ columns)) }
     {
         if columns.len() < 1
             || columns.len() > MOST_UPLOAD_COLUMNS

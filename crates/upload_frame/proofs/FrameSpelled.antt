@@ -1,5 +1,6 @@
 -- Frames of hosts: what is read is spelled so, and what is spelled so is read.
-use Rattle.std.proofs.Common.{◌≡◌, ℕ, zero, suc, ◌+◌, ◌*◌, ◌^◌, ◌<◌, ◌≤◌, Bool, true, false, cond, ltb, leb, eqb, ◌||◌, ◌&&◌, List, [], ◌∷◌, ◌++◌, length, Option, Some, None, Result, Ok, Err, refl, sym, ap, subst, ◌∙◌, arith, append_assoc, ◌⊎◌, inl, inr}
+use Rattle.std.proofs.Common.{◌≡◌, ℕ, zero, suc, ◌+◌, ◌*◌, ◌^◌, ◌<◌, ◌≤◌, Bool, true, false, cond, ltb, leb, eqb, ◌||◌, ◌&&◌, List}
+use Rattle.std.proofs.Common.{[], ◌∷◌, ◌++◌, length, Option, Some, None, Result, Ok, Err, refl, sym, ap, subst, ◌∙◌, arith, append_assoc, ◌⊎◌, inl, inr}
 use Rattle.std.specs.List.{flat_map, AllByRecursion}
 use Rattle.std.specs.Int.{w16, w32, to_be_bytes}
 use Rattle.std.proofs.lemmas.Bool.{eqb-true, ltb-false, leb-true, le-ltb, le-leb}
@@ -22,7 +23,8 @@ use Rattle.upload_frame.specs.declared.fault.NextFault.TheVariants as next
 use Rattle.upload_frame.specs.declared.frame.Frame.{Frame}
 use Rattle.upload_frame.specs.declared.frame.Frame.TheVariants.{Hello, Upload, Bye}
 use Rattle.upload_frame.specs.Front.{fits_lens, Front, front_at}
-use Rattle.upload_frame.specs.Frames.{frame_lens, frame_kind, frame_fields, IsFrame, hello_at, columns_at, UploadHead, upload_head, upload_head_at, upload_at, bye_at, frame_fields_at, frame_of, frames}
+use Rattle.upload_frame.specs.Frames.{frame_lens, frame_kind, frame_fields, IsFrame, hello_at, columns_at, UploadHead}
+use Rattle.upload_frame.specs.Frames.{upload_head, upload_head_at, upload_at, bye_at, frame_fields_at, frame_of, frames}
 use Rattle.upload_frame.specs.Machine.{FailsBy}
 use Rattle.upload_frame.proofs.Heads.{IsSpelled}
 use Rattle.upload_frame.proofs.ColumnsOf.{is_upload, columns_take, columns_length, law}
@@ -41,7 +43,13 @@ frame_spelled (Hello host shape) h =
 frame_spelled (Upload u) h =
     let l = columns_length u.columns h.each in
     let tail : List ℕ = flat_map spelling u.columns in
-    let len : length (frame_fields (Upload u)) ≡ 7 + length tail = omega (arith, length-append (to_be_bytes w16 u.host) (to_be_bytes w32 u.seq ++ length u.columns ∷ tail), length-append (to_be_bytes w32 u.seq) (length u.columns ∷ tail)) in
+    let len : length (frame_fields (Upload u)) ≡ 7 + length tail =
+    omega (
+      arith,
+      length-append (to_be_bytes w16 u.host) (to_be_bytes w32 u.seq ++ length u.columns ∷ tail),
+      length-append (to_be_bytes w32 u.seq)
+          (length u.columns ∷ tail),
+    ) in
     let lo : 28 ≤ length (frame_fields (Upload u)) + 1 = omega (arith, l.0, h.columns.some, len) in
     let hi : length (frame_fields (Upload u)) + 1 ≤ MOST_FRAME_BYTES = omega (arith, l.1, h.columns.few, len) in
     record { range = (28, MOST_FRAME_BYTES); known = refl; fits = rw (le-leb _ _ lo, le-leb _ _ hi) refl; few = hi }
@@ -52,7 +60,8 @@ frame_spelled (Bye host) h = record { range = (3, 3); known = refl; fits = refl;
 hello_again : (len host : ℕ) (shape : Shape) → IsFrame (Hello host shape) → hello_at len (frame_fields (Hello host shape)) ≡ Ok (Hello host shape)
 unfolding hello_at
 hello_again len host shape h =
-    let shape_is : shape_at (Length len) BadShape (shape_bytes shape) ≡ Ok (shape, []) = ap (shape_at (Length len) BadShape) (sym (append-nil (shape_bytes shape))) ∙ shape_again (Length len) BadShape shape [] h.1 in
+    let shape_is : shape_at (Length len) BadShape (shape_bytes shape) ≡ Ok (shape, []) =
+    ap (shape_at (Length len) BadShape) (sym (append-nil (shape_bytes shape))) ∙ shape_again (Length len) BadShape shape [] h.1 in
     rw (number_again (Length len) w16 (2 ^ 16) wide16 host (shape_bytes shape) h.0, shape_is) refl
 
 upload_again : (len : ℕ) (u : UploadData) → IsFull u → upload_at len (frame_fields (Upload u)) ≡ Ok (Upload u)
@@ -74,7 +83,8 @@ upload_again len u h =
 bye_again : (len host : ℕ) → host < 2 ^ 16 → bye_at len (to_be_bytes w16 host) ≡ Ok (Bye host)
 unfolding bye_at
 bye_again len host lt =
-    let host_is : number_at (Length len) w16 (to_be_bytes w16 host) ≡ Ok (host, []) = ap (number_at (Length len) w16) (sym (append-nil (to_be_bytes w16 host))) ∙ number_again (Length len) w16 (2 ^ 16) wide16 host [] lt in
+    let host_is : number_at (Length len) w16 (to_be_bytes w16 host) ≡ Ok (host, []) =
+    ap (number_at (Length len) w16) (sym (append-nil (to_be_bytes w16 host))) ∙ number_again (Length len) w16 (2 ^ 16) wide16 host [] lt in
     rw host_is refl
 
 fields_again : (f : Frame) → IsFrame f → frame_fields_at (length (frame_fields f) + 1) (frame_kind f) (frame_fields f) ≡ Ok f
@@ -97,20 +107,27 @@ all_of bytes text rest e len =
 hello_takes : (len : ℕ) (body : List ℕ) (f : Frame) → IsBytes body → length body ≡ 14 → hello_at len body ≡ Ok f → Read body 1 f
 unfolding hello_at
 hello_takes len body f fits size e =
-    let a = bind_ok (number_at (Length len) w16 body) (λ host. shape_at (Length len) BadShape host.1 >>= λ shape. (let r : Result Frame FrameFault = Ok (Hello host.0 shape.0) in r)) f e in
+    let a = bind_ok (number_at (Length len) w16 body)
+    (λ host. shape_at (Length len) BadShape host.1 >>= λ shape. (let r : Result Frame FrameFault = Ok (Hello host.0 shape.0) in r)) f e in
     let b = bind_ok (shape_at (Length len) BadShape a.0.1) (λ shape. (let r : Result Frame FrameFault = Ok (Hello a.0.0 shape.0) in r)) f a.2 in
     let t1 = number_takes (Length len) w16 (2 ^ 16) wide16 body a.0 fits a.1 in
     let t2 = shape_takes (Length len) BadShape a.0.1 b.0 t1.0.rest_fits b.1 in
     let t = Takes-then body (to_be_bytes w16 a.0.0) a.0.1 (shape_bytes b.0.0) b.0.1 t1.0 t2.0 in
-    let long : length body ≡ length (to_be_bytes w16 a.0.0 ++ shape_bytes b.0.0) = omega (arith, size, length-append (to_be_bytes w16 a.0.0) (shape_bytes b.0.0), shape_len b.0.0) in
-    subst (λ (x : Frame). Read body 1 x) (ok_is (Hello a.0.0 b.0.0) f b.2) ((t1.1, t2.1), all_of body (to_be_bytes w16 a.0.0 ++ shape_bytes b.0.0) b.0.1 t.parts long, refl)
+    let long : length body ≡ length (to_be_bytes w16 a.0.0 ++ shape_bytes b.0.0) =
+    omega (arith, size, length-append (to_be_bytes w16 a.0.0) (shape_bytes b.0.0), shape_len b.0.0) in
+    subst (λ (x : Frame). Read body 1 x) (ok_is (Hello a.0.0 b.0.0) f b.2)
+    ((t1.1, t2.1), all_of body (to_be_bytes w16 a.0.0 ++ shape_bytes b.0.0) b.0.1 t.parts long, refl)
 
 head_takes : (len : ℕ) (body : List ℕ) (x : UploadHead × List ℕ) → IsBytes body → upload_head_at len body ≡ Ok x
-    → Takes body (to_be_bytes w16 x.0.host ++ (to_be_bytes w32 x.0.seq ++ x.0.count ∷ [])) x.1 × (x.0.host < 2 ^ 16) × (x.0.seq < 2 ^ 32) × (1 ≤ x.0.count) × (x.0.count ≤ MOST_UPLOAD_COLUMNS)
+    → Takes body (to_be_bytes w16 x.0.host ++ (to_be_bytes w32 x.0.seq ++ x.0.count ∷ [])) x.1 × (x.0.host < 2 ^ 16) × (x.0.seq < 2 ^ 32) × (1 ≤ x.0.count)
+    × (x.0.count ≤ MOST_UPLOAD_COLUMNS)
 unfolding upload_head_at
 head_takes len body x fits e =
-    let last = λ (host seq : ℕ) (count : ℕ × List ℕ). (let r : Result (UploadHead × List ℕ) FrameFault = cond (ltb count.0 1 || ltb MOST_UPLOAD_COLUMNS count.0) (Err (Count count.0)) (Ok (upload_head host seq count.0, count.1)) in r) in
-    let a = bind_ok (number_at (Length len) w16 body) (λ host. number_at (Length len) w32 host.1 >>= λ seq. byte_at (Length len) seq.1 >>= λ count. last host.0 seq.0 count) x e in
+    let last = λ (host seq : ℕ) (count : ℕ
+    × List ℕ). (let r : Result (UploadHead × List ℕ) FrameFault =
+    cond (ltb count.0 1 || ltb MOST_UPLOAD_COLUMNS count.0) (Err (Count count.0)) (Ok (upload_head host seq count.0, count.1)) in r) in
+    let a = bind_ok (number_at (Length len) w16 body)
+    (λ host. number_at (Length len) w32 host.1 >>= λ seq. byte_at (Length len) seq.1 >>= λ count. last host.0 seq.0 count) x e in
     let b = bind_ok (number_at (Length len) w32 a.0.1) (λ seq. byte_at (Length len) seq.1 >>= λ count. last a.0.0 seq.0 count) x a.2 in
     let c = bind_ok (byte_at (Length len) b.0.1) (λ count. last a.0.0 b.0.0 count) x b.2 in
     let made : UploadHead × List ℕ = (upload_head a.0.0 b.0.0 c.0.0, c.0.1) in
@@ -120,13 +137,16 @@ head_takes len body x fits e =
     let t3 = byte_takes (Length len) b.0.1 c.0 t2.0.rest_fits c.1 in
     let s2 = Takes-then a.0.1 (to_be_bytes w32 b.0.0) b.0.1 (c.0.0 ∷ []) c.0.1 t2.0 t3.0 in
     let s1 = Takes-then body (to_be_bytes w16 a.0.0) a.0.1 (to_be_bytes w32 b.0.0 ++ c.0.0 ∷ []) c.0.1 t1.0 s2 in
-    subst (λ (y : UploadHead × List ℕ). Takes body (to_be_bytes w16 y.0.host ++ (to_be_bytes w32 y.0.seq ++ y.0.count ∷ [])) y.1 × (y.0.host < 2 ^ 16) × (y.0.seq < 2 ^ 32) × (1 ≤ y.0.count) × (y.0.count ≤ MOST_UPLOAD_COLUMNS)) {x = made} g.1
+    subst (λ (y : UploadHead × List ℕ). Takes body (to_be_bytes w16 y.0.host ++ (to_be_bytes w32 y.0.seq ++ y.0.count ∷ [])) y.1 × (y.0.host < 2 ^ 16)
+    × (y.0.seq < 2 ^ 32) × (1 ≤ y.0.count) × (y.0.count ≤ MOST_UPLOAD_COLUMNS)) {x = made} g.1
     (s1, t1.1, t2.1, grind (arith, g.0), grind (arith, g.0))
 
 upload_takes : (len : ℕ) (body : List ℕ) (f : Frame) → IsBytes body → upload_at len body ≡ Ok f → Read body 2 f
 unfolding upload_at
 upload_takes len body f fits e =
-    let a = bind_ok (upload_head_at len body) (λ head. columns_at len head.0.count [] head.1 >>= λ cs. (let r : Result Frame FrameFault = Ok (Upload (upload_of head.0.host head.0.seq cs)) in r)) f e in
+    let a = bind_ok (upload_head_at len body)
+    (λ head. columns_at len head.0.count [] head.1 >>= λ cs.
+    (let r : Result Frame FrameFault = Ok (Upload (upload_of head.0.host head.0.seq cs)) in r)) f e in
     let h = a.0.0 in
     let b = bind_ok (columns_at len h.count [] a.0.1) (λ cs. (let r : Result Frame FrameFault = Ok (Upload (upload_of h.host h.seq cs)) in r)) f a.2 in
     let t = head_takes len body a.0 fits a.1 in
@@ -169,7 +189,8 @@ range_is a b e = cc
 pub no_range : (r : ℕ × ℕ) (x : Option (ℕ × ℕ)) → x ≡ None → x ≡ some r → ⊥
 no_range r x n e = absurd cc
 
-fields_take : (len k : ℕ) (range : ℕ × ℕ) (body : List ℕ) (f : Frame) → IsBytes body → length body + 1 ≡ len → frame_lens k ≡ Some range → fits_lens range len ≡ true → frame_fields_at len k body ≡ Ok f → Read body k f
+fields_take : (len k : ℕ) (range : ℕ × ℕ) (body : List ℕ) (f : Frame) → IsBytes body → length body + 1 ≡ len → frame_lens k ≡ Some range
+    → fits_lens range len ≡ true → frame_fields_at len k body ≡ Ok f → Read body k f
 unfolding frame_fields_at
 fields_take len zero range body f fits long known size e = absurd cc
 fields_take len (suc zero) range body f fits long known size e =
@@ -220,23 +241,27 @@ not_broken bytes f h e = differ (Upload h.0, length (frame_of h.0)) (sym (upload
     differ x e2 = absurd cc
 
 pub not_hello : (bytes : List ℕ) (host : ℕ) (shape : Shape) (n : ℕ) → IsOneUpload bytes → front_at frames bytes ≡ Ok (Some (Hello host shape, n)) → ⊥
-not_hello bytes host shape n h e = differ (ap (λ (x : Frame × ℕ). x.0) (some_same (Upload h.0, length (frame_of h.0)) (Hello host shape, n) (sym (upload_front bytes h.0 h.1 h.2) ∙ e)))
+not_hello bytes host shape n h e =
+    differ (ap (λ (x : Frame × ℕ). x.0) (some_same (Upload h.0, length (frame_of h.0)) (Hello host shape, n) (sym (upload_front bytes h.0 h.1 h.2) ∙ e)))
   where
     differ : Upload h.0 ≡ Hello host shape → ⊥
     differ e2 = absurd cc
 
 pub not_bye : (bytes : List ℕ) (host : ℕ) (n : ℕ) → IsOneUpload bytes → front_at frames bytes ≡ Ok (Some (Bye host, n)) → ⊥
-not_bye bytes host n h e = differ (ap (λ (x : Frame × ℕ). x.0) (some_same (Upload h.0, length (frame_of h.0)) (Bye host, n) (sym (upload_front bytes h.0 h.1 h.2) ∙ e)))
+not_bye bytes host n h e = differ
+    (ap (λ (x : Frame × ℕ). x.0) (some_same (Upload h.0, length (frame_of h.0)) (Bye host, n) (sym (upload_front bytes h.0 h.1 h.2) ∙ e)))
   where
     differ : Upload h.0 ≡ Bye host → ⊥
     differ e2 = absurd cc
 
-pub only_upload : (bytes : List ℕ) (v : UploadData) (n : ℕ) (u : UploadData) → front_at frames bytes ≡ Ok (Some (Upload v, n)) → IsFull u → bytes ≡ frame_of u → v ≡ u
+pub only_upload : (bytes : List ℕ) (v : UploadData) (n : ℕ) (u : UploadData) → front_at frames bytes ≡ Ok (Some (Upload v, n)) → IsFull u
+    → bytes ≡ frame_of u → v ≡ u
 only_upload bytes v n u at full e =
     upload_same v u (ap (λ (x : Frame × ℕ). x.0) (some_same (Upload v, n) (Upload u, length (frame_of u)) (sym at ∙ upload_front bytes u full e)))
 
 -- The front that was read, by its parts.
-pub read_as : (bytes : List ℕ) (o : Option (Frame × ℕ)) (f g : Frame) (n : ℕ) → front_at frames bytes ≡ Ok o → o ≡ Some (f, n) → f ≡ g → front_at frames bytes ≡ Ok (Some (g, n))
+pub read_as : (bytes : List ℕ) (o : Option (Frame × ℕ)) (f g : Frame) (n : ℕ) → front_at frames bytes ≡ Ok o → o ≡ Some (f, n) → f ≡ g
+    → front_at frames bytes ≡ Ok (Some (g, n))
 read_as bytes o f g n at o-is f-is = at ∙ ap front o-is ∙ ap (λ (x : Frame). front (Some (x, n))) f-is
 
 pub read_none : (bytes : List ℕ) (o : Option (Frame × ℕ)) → front_at frames bytes ≡ Ok o → o ≡ None → front_at frames bytes ≡ Ok None

@@ -19,7 +19,8 @@ found x = Ok (Some x)
 found_is : {F : Type 0} (x y : F × ℕ) → found x ≡ found y → x ≡ y
 found_is x y e = cc
 
-fields_by : {F : Type 0} (r : Result F FrameFault) (k : ℕ) (f : F) (n : ℕ) → (let x : Front F = r >>= λ g. Ok (Some (g, k)) in x) ≡ Ok (Some (f, n)) → (r ≡ Ok f) × (n ≡ k)
+fields_by : {F : Type 0} (r : Result F FrameFault) (k : ℕ) (f : F) (n : ℕ) → (let x : Front F = r >>= λ g. Ok (Some (g, k)) in x) ≡ Ok (Some (f, n))
+    → (r ≡ Ok f) × (n ≡ k)
 fields_by (Err e) k f n at = absurd cc
 fields_by {F = F} (Ok g) k f n at =
     let made : F × ℕ = (g, k) in
@@ -27,7 +28,8 @@ fields_by {F = F} (Ok g) k f n at =
     let same : made ≡ want = found_is made want at in
     (ap (λ (x : F × ℕ). (let r : Result F FrameFault = Ok x.0 in r)) same, ap (λ (x : F × ℕ). x.1) (sym same))
 
-front_by : {F : Type 0} (format : Format F) (s : List ℕ) (f : F) (n : ℕ) (r : HeadFront) → head_at format.lens s ≡ r → (let x : Front F = r >>= front_with format in x) ≡ Ok (Some (f, n)) → FrontOf format s f n
+front_by : {F : Type 0} (format : Format F) (s : List ℕ) (f : F) (n : ℕ) (r : HeadFront) → head_at format.lens s ≡ r
+    → (let x : Front F = r >>= front_with format in x) ≡ Ok (Some (f, n)) → FrontOf format s f n
 front_by format s f n (Err e) at h = absurd cc
 front_by format s f n (Ok None) at h = absurd cc
 front_by format s f n (Ok (Some head)) at h =
@@ -53,8 +55,10 @@ none_by {F = F} format (Ok (Some head)) h = absurd (by (format.fields_at head.le
 
 pub fronts : {F : Type 0} (format : Format F) → LawOfFronts format
 fronts {F = F} format = record {
-  more = λ a b s. ap (λ (r : HeadFront). (let x : Front F = r >>= front_with format in x)) (head_more format.lens a b (settled_by format (head_at format.lens a) s));
-  inside = λ s f n e. let p = front_of format s f n e in let w = whole_of format.lens s p.head p.at in (omega (arith, p.end), omega (arith, p.end, w.len, w.there));
+  more = λ a b s. ap (λ (r : HeadFront). (let x : Front F = r >>= front_with format in x))
+      (head_more format.lens a b (settled_by format (head_at format.lens a) s));
+  inside = λ s f n e. let p = front_of format s f n e in let w =
+      whole_of format.lens s p.head p.at in (omega (arith, p.end), omega (arith, p.end, w.len, w.there));
   unfinished = λ s e. head_unfinished format.lens s (none_by format (head_at format.lens s) e);
   none = λ s u. ap (λ (r : HeadFront). (let x : Front F = r >>= front_with format in x)) (head_none format.lens s u);
 }

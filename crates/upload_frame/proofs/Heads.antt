@@ -1,5 +1,6 @@
 -- The length and the kind at the front of a stream.
-use Rattle.std.proofs.Common.{◌≡◌, ℕ, zero, suc, ◌+◌, ◌-◌, ◌<◌, ◌≤◌, ◌⊎◌, Bool, true, false, not, cond, ltb, leb, eqb, ◌||◌, ◌&&◌, List, [], ◌∷◌, ◌++◌, length, take, drop, Option, Some, None, Result, Ok, Err, refl, sym, ap, subst, ◌∙◌, arith, inl, inr}
+use Rattle.std.proofs.Common.{◌≡◌, ℕ, zero, suc, ◌+◌, ◌-◌, ◌<◌, ◌≤◌, ◌⊎◌, Bool, true, false, not, cond, ltb, leb, eqb, ◌||◌, ◌&&◌, List}
+use Rattle.std.proofs.Common.{[], ◌∷◌, ◌++◌, length, take, drop, Option, Some, None, Result, Ok, Err, refl, sym, ap, subst, ◌∙◌, arith, inl, inr}
 use Rattle.std.specs.Prelude.{slice_range, slice_index}
 use Rattle.std.specs.Int.{w16, from_be_bytes, to_be_bytes}
 use Rattle.std.proofs.lemmas.Bool.{cases_lt, lt-ltb, le-ltb, ltb-false}
@@ -9,7 +10,8 @@ use Rattle.byte_fields.proofs.Numbers.{wide16}
 use Rattle.lg_model.specs.declared.limits.TheConstants.{MOST_FRAME_BYTES}
 use Rattle.upload_frame.specs.declared.fault.FrameFault.{FrameFault}
 use Rattle.upload_frame.specs.declared.fault.FrameFault.TheVariants.{Length, Kind}
-use Rattle.upload_frame.specs.Front.{Lens, fits_lens, Head, head_of_parts, HeadFront, length_of, with_lens, is_bad_length, with_length, head_at, framed, IsLength, IsPart, IsUnfinished}
+use Rattle.upload_frame.specs.Front.{Lens, fits_lens, Head, head_of_parts, HeadFront, length_of, with_lens}
+use Rattle.upload_frame.specs.Front.{is_bad_length, with_length, head_at, framed, IsLength, IsPart, IsUnfinished}
 
 -- ---- what comes after changes nothing
 
@@ -32,7 +34,8 @@ late n a b x y same settled =
     ]
 
 -- A test that doesn't look at the bytes after it.
-early : (t : Bool) (f : FrameFault) (x y : HeadFront) → (t ≡ false → IsSettledHead x → y ≡ x) → IsSettledHead (cond t (Err f) x) → cond t (Err f) y ≡ cond t (Err f) x
+early : (t : Bool) (f : FrameFault) (x y : HeadFront) → (t ≡ false → IsSettledHead x → y ≡ x) → IsSettledHead (cond t (Err f) x)
+    → cond t (Err f) y ≡ cond t (Err f) x
 early true f x y same settled = refl
 early false f x y same settled = same refl settled
 
@@ -50,7 +53,8 @@ whole len kind s = Ok (Some (head_of_parts kind len (slice_range s 3 (len + 2)))
 abbrev sized : ℕ → ℕ → List ℕ → HeadFront
 sized len kind s = cond (ltb (length s) (len + 2)) (Ok None) (whole len kind s)
 
-lens_more : (len kind : ℕ) (r : Option (ℕ × ℕ)) (a b : List ℕ) → 3 ≤ length a → 1 ≤ len → IsSettledHead (with_lens len kind a r) → with_lens len kind (a ++ b) r ≡ with_lens len kind a r
+lens_more : (len kind : ℕ) (r : Option (ℕ × ℕ)) (a b : List ℕ) → 3 ≤ length a → 1 ≤ len → IsSettledHead (with_lens len kind a r)
+    → with_lens len kind (a ++ b) r ≡ with_lens len kind a r
 lens_more len kind None a b long some settled = refl
 lens_more len kind (Some r) a b long some settled =
     early (not (fits_lens r len)) (Length len) (sized len kind a) (sized len kind (a ++ b))
@@ -67,7 +71,8 @@ length_more : (lens : Lens) (len : ℕ) (a b : List ℕ) → IsSettledHead (with
 length_more lens len a b settled =
     early (is_bad_length len) (Length len) (there lens len a) (there lens len (a ++ b))
     (λ ok s1. late 3 a b (known lens len a) (known lens len (a ++ b))
-    (λ le s2. ap (λ (k : ℕ). with_lens len k (a ++ b) (lens k)) (get_or-append a b 0 2 le) ∙ lens_more len (slice_index a 2) (lens (slice_index a 2)) a b le (some_len len (ltb MOST_FRAME_BYTES len) ok) s2) s1) settled
+    (λ le s2. ap (λ (k : ℕ). with_lens len k (a ++ b) (lens k)) (get_or-append a b 0 2 le)
+    ∙ lens_more len (slice_index a 2) (lens (slice_index a 2)) a b le (some_len len (ltb MOST_FRAME_BYTES len) ok) s2) s1) settled
 
 pub head_more : (lens : Lens) (a b : List ℕ) → IsSettledHead (head_at lens a) → head_at lens (a ++ b) ≡ head_at lens a
 unfolding head_at
@@ -106,7 +111,8 @@ pub record Whole (lens : Lens) (s : List ℕ) (h : Head) : Type 0 where
   pub some : 1 ≤ length_of s
   pub there : length_of s + 2 ≤ length s
 
-whole_by : (lens : Lens) (s : List ℕ) (h : Head) (r : Option (ℕ × ℕ)) → 1 ≤ length_of s → lens (slice_index s 2) ≡ r → with_lens (length_of s) (slice_index s 2) s r ≡ is h → Whole lens s h
+whole_by : (lens : Lens) (s : List ℕ) (h : Head) (r : Option (ℕ × ℕ)) → 1 ≤ length_of s → lens (slice_index s 2) ≡ r
+    → with_lens (length_of s) (slice_index s 2) s r ≡ is h → Whole lens s h
 whole_by lens s h None some e at = absurd cc
 whole_by lens s h (Some r) some e at =
     let len = length_of s in
@@ -159,7 +165,8 @@ pub framed_len : (kind : ℕ) (fields : List ℕ) → length (framed kind fields
 unfolding framed
 framed_len kind fields = omega (arith, length-append (to_be_bytes w16 (length fields + 1)) (kind ∷ fields))
 
-head_by : (lens : Lens) (len k : ℕ) (body rest : List ℕ) (range : ℕ × ℕ) → length body + 1 ≡ len → len ≤ MOST_FRAME_BYTES → lens k ≡ Some range → fits_lens range len ≡ true
+head_by : (lens : Lens) (len k : ℕ) (body rest : List ℕ) (range : ℕ × ℕ) → length body + 1 ≡ len → len ≤ MOST_FRAME_BYTES → lens k ≡ Some range
+    → fits_lens range len ≡ true
     → head_at lens (to_be_bytes w16 len ++ (k ∷ (body ++ rest))) ≡ Ok (Some (head_of_parts k len body))
 unfolding head_at
 head_by lens len k body rest range body_len small known_is fits =
@@ -174,7 +181,8 @@ head_by lens len k body rest range body_len small known_is fits =
     ∙ late_is (length s) (len + 2) (whole len k s) (omega (arith, s_len, body_len))
     ∙ ap (λ (b : List ℕ). (let x : HeadFront = Ok (Some (head_of_parts k len b)) in x)) cut
 
-pub head_again : (lens : Lens) (kind : ℕ) (fields rest : List ℕ) → IsSpelled lens kind fields → head_at lens (framed kind fields ++ rest) ≡ Ok (Some (head_of_parts kind (length fields + 1) fields))
+pub head_again : (lens : Lens) (kind : ℕ) (fields rest : List ℕ) → IsSpelled lens kind fields
+    → head_at lens (framed kind fields ++ rest) ≡ Ok (Some (head_of_parts kind (length fields + 1) fields))
 unfolding framed
 head_again lens kind fields rest h = head_by lens (length fields + 1) kind fields rest h.range refl h.few h.known h.fits
 
@@ -201,7 +209,8 @@ or_both false b e = e
 whole_is : (h : Head) → is h ≡ nothing → ⊥
 whole_is h e = cc
 
-part_of : (lens : Lens) (s : List ℕ) (r : Option (ℕ × ℕ)) → 3 ≤ length s → IsLength (length_of s) → lens (slice_index s 2) ≡ r → with_lens (length_of s) (slice_index s 2) s r ≡ nothing → IsPart lens s
+part_of : (lens : Lens) (s : List ℕ) (r : Option (ℕ × ℕ)) → 3 ≤ length s → IsLength (length_of s) → lens (slice_index s 2) ≡ r
+    → with_lens (length_of s) (slice_index s 2) s r ≡ nothing → IsPart lens s
 part_of lens s None long good e at = absurd cc
 part_of lens s (Some r) long good e at =
     let len = length_of s in
@@ -220,7 +229,11 @@ head_unfinished lens s e =
       | inl lt ↦ inl lt
       | inr a ↦
           let b = early_none (is_bad_length len) (Length len) (there lens len s) a.1 in
-          let good : IsLength len = (omega (arith, some_len len (ltb MOST_FRAME_BYTES len) b.0), ltb-false _ _ (or_both (eqb len 0) (ltb MOST_FRAME_BYTES len) b.0)) in
+          let good : IsLength len = (
+            omega (arith, some_len len (ltb MOST_FRAME_BYTES len) b.0),
+            ltb-false _ _
+                (or_both (eqb len 0) (ltb MOST_FRAME_BYTES len) b.0),
+          ) in
           elim (late_none (length s) 3 (known lens len s) b.1) [
             | inl lt ↦ inr (inl (omega (arith, lt, a.0), good))
             | inr c ↦ inr (inr (part_of lens s (lens (slice_index s 2)) c.0 good refl c.1))
@@ -238,9 +251,11 @@ head_none lens s h =
     elim h [
       | inl lt ↦ late_stop (length s) 2 (with_length lens len s) lt
       | inr a ↦ elim a [
-        | inl b ↦ late_is (length s) 2 (with_length lens len s) (omega (arith, b.0)) ∙ early_is (is_bad_length len) (Length len) (there lens len s) (good_length len (omega (arith, b.1.0)) b.1.1)
+        | inl b ↦ late_is (length s) 2 (with_length lens len s) (omega (arith, b.0))
+            ∙ early_is (is_bad_length len) (Length len) (there lens len s) (good_length len (omega (arith, b.1.0)) b.1.1)
             ∙ late_stop (length s) 3 (known lens len s) (omega (arith, b.0))
-        | inr p ↦ late_is (length s) 2 (with_length lens len s) (omega (arith, p.some)) ∙ early_is (is_bad_length len) (Length len) (there lens len s) (good_length len (omega (arith, p.first.0)) p.first.1)
+        | inr p ↦ late_is (length s) 2 (with_length lens len s) (omega (arith, p.some))
+            ∙ early_is (is_bad_length len) (Length len) (there lens len s) (good_length len (omega (arith, p.first.0)) p.first.1)
             ∙ late_is (length s) 3 (known lens len s) p.some ∙ ap (with_lens len kind s) p.kind
             ∙ early_is (not (fits_lens p.range len)) (Length len) (sized len kind s) (ap not p.fits) ∙ late_stop (length s) (len + 2) (whole len kind s) p.fewer
       ]

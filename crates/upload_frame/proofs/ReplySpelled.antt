@@ -1,5 +1,6 @@
 -- Replies: what is read is spelled so, and what is spelled so is read.
-use Rattle.std.proofs.Common.{◌≡◌, ℕ, zero, suc, ◌+◌, ◌^◌, ◌<◌, ◌≤◌, Bool, true, false, cond, ltb, leb, eqb, ◌||◌, ◌&&◌, List, [], ◌∷◌, ◌++◌, length, Option, Some, None, Result, Ok, Err, refl, sym, ap, subst, ◌∙◌, arith, append_assoc}
+use Rattle.std.proofs.Common.{◌≡◌, ℕ, zero, suc, ◌+◌, ◌^◌, ◌<◌, ◌≤◌, Bool, true, false, cond, ltb, leb, eqb, ◌||◌, ◌&&◌}
+use Rattle.std.proofs.Common.{List, [], ◌∷◌, ◌++◌, length, Option, Some, None, Result, Ok, Err, refl, sym, ap, subst, ◌∙◌, arith, append_assoc}
 use Rattle.std.specs.Int.{w16, w32, to_be_bytes}
 use Rattle.std.proofs.lemmas.Bool.{eqb-true, le-ltb}
 use Rattle.std.proofs.lemmas.List.{length-append, append-nil}
@@ -18,7 +19,8 @@ use Rattle.upload_frame.specs.declared.reply.RefusedWhy.TheVariants as why
 use Rattle.upload_frame.specs.declared.reply.Reply.{Reply}
 use Rattle.upload_frame.specs.declared.reply.Reply.TheVariants.{Welcome, Acknowledged, Refused, Goodbye}
 use Rattle.upload_frame.specs.Front.{fits_lens}
-use Rattle.upload_frame.specs.Replies.{reply_lens, reply_kind, known_code, why_code, zero_key, why_key, reply_fields, IsReply, is_zero_key, why_by, why_of, welcome_at, acknowledged_at, refused_at, goodbye_at, reply_fields_at, replies}
+use Rattle.upload_frame.specs.Replies.{reply_lens, reply_kind, known_code, why_code, zero_key, why_key, reply_fields, IsReply}
+use Rattle.upload_frame.specs.Replies.{is_zero_key, why_by, why_of, welcome_at, acknowledged_at, refused_at, goodbye_at, reply_fields_at, replies}
 use Rattle.upload_frame.proofs.Heads.{IsSpelled}
 use Rattle.upload_frame.proofs.FrameSpelled.{all_of, exact, range_is, no_range}
 use Rattle.upload_frame.proofs.Spellings.{IsFormat}
@@ -33,7 +35,13 @@ reply_spelled : (r : Reply) → IsReply r → IsSpelled reply_lens (reply_kind r
 reply_spelled (Welcome host) h = record { range = (3, 3); known = refl; fits = refl; few = omega arith }
 reply_spelled (Acknowledged host seq known) h = record { range = (8, 8); known = refl; fits = refl; few = omega (arith, known_len host seq known) }
 reply_spelled (Refused host seq reason) h =
-    record { range = (16, 16); known = refl; fits = ap (λ (n : ℕ). fits_lens (16, 16) (n + 1)) (refused_len host seq reason); few = omega (arith, refused_len host seq reason) }
+    record {
+      range = (16, 16);
+      known = refl;
+      fits = ap (λ (n : ℕ). fits_lens (16, 16) (n + 1)) (refused_len host seq reason);
+      few = omega
+          (arith, refused_len host seq reason);
+    }
 reply_spelled (Goodbye host) h = record { range = (3, 3); known = refl; fits = refl; few = omega arith }
 
 -- ---- what is spelled so is read
@@ -49,12 +57,21 @@ goodbye_again : (len host : ℕ) → host < 2 ^ 16 → goodbye_at len (to_be_byt
 unfolding goodbye_at
 goodbye_again len host lt = rw (host_again len host lt) refl
 
-acknowledged_again : (len host seq : ℕ) (known : Bool) → host < 2 ^ 16 → seq < 2 ^ 32 → acknowledged_at len (reply_fields (Acknowledged host seq known)) ≡ Ok (Acknowledged host seq known)
+acknowledged_again : (len host seq : ℕ) (known : Bool) → host < 2 ^ 16 → seq < 2 ^ 32
+    → acknowledged_at len (reply_fields (Acknowledged host seq known)) ≡ Ok (Acknowledged host seq known)
 unfolding acknowledged_at
 acknowledged_again len host seq true h s =
-    rw (number_again (Length len) w16 (2 ^ 16) wide16 host (to_be_bytes w32 seq ++ 1 ∷ []) h, number_again (Length len) w32 (2 ^ 32) wide32 seq (1 ∷ []) s, byte_again (Length len) 1 []) refl
+    rw (
+      number_again (Length len) w16 (2 ^ 16) wide16 host (to_be_bytes w32 seq ++ 1 ∷ []) h,
+      number_again (Length len) w32 (2 ^ 32) wide32 seq (1 ∷ []) s,
+      byte_again (Length len) 1 [],
+    ) refl
 acknowledged_again len host seq false h s =
-    rw (number_again (Length len) w16 (2 ^ 16) wide16 host (to_be_bytes w32 seq ++ 0 ∷ []) h, number_again (Length len) w32 (2 ^ 32) wide32 seq (0 ∷ []) s, byte_again (Length len) 0 []) refl
+    rw (
+      number_again (Length len) w16 (2 ^ 16) wide16 host (to_be_bytes w32 seq ++ 0 ∷ []) h,
+      number_again (Length len) w32 (2 ^ 32) wide32 seq (0 ∷ []) s,
+      byte_again (Length len) 0 [],
+    ) refl
 
 why_again : (reason : RefusedWhy) → why_of (why_code reason) (why_key reason) ≡ Ok reason
 unfolding why_of
@@ -63,12 +80,14 @@ why_again why.Full = refl
 why_again why.Shape = refl
 why_again why.Closed = refl
 
-refused_again : (len host seq : ℕ) (reason : RefusedWhy) → IsReply (Refused host seq reason) → refused_at len (reply_fields (Refused host seq reason)) ≡ Ok (Refused host seq reason)
+refused_again : (len host seq : ℕ) (reason : RefusedWhy) → IsReply (Refused host seq reason)
+    → refused_at len (reply_fields (Refused host seq reason)) ≡ Ok (Refused host seq reason)
 unfolding refused_at
 refused_again len host seq reason h =
     let key : List ℕ = column_key_bytes (why_key reason) in
     let code : ℕ = why_code reason in
-    let key_is : key_at (Length len) key ≡ Ok (why_key reason, []) = ap (key_at (Length len)) (sym (append-nil key)) ∙ key_again (Length len) (why_key reason) [] h.2 in
+    let key_is : key_at (Length len) key ≡ Ok (why_key reason, []) =
+    ap (key_at (Length len)) (sym (append-nil key)) ∙ key_again (Length len) (why_key reason) [] h.2 in
     rw (
       number_again (Length len) w16 (2 ^ 16) wide16 host (to_be_bytes w32 seq ++ code ∷ key) h.0,
       number_again (Length len) w32 (2 ^ 32) wide32 seq (code ∷ key) h.1,
@@ -113,8 +132,10 @@ code_is (suc (suc k)) e = absurd (grind (arith, e))
 acknowledged_takes : (len : ℕ) (body : List ℕ) (r : Reply) → IsBytes body → length body ≡ 7 → acknowledged_at len body ≡ Ok r → Read body 0x82 r
 unfolding acknowledged_at
 acknowledged_takes len body r fits size e =
-    let last = λ (host seq : ℕ) (code : ℕ × List ℕ). (let x : Result Reply FrameFault = cond (ltb 1 code.0) (Err (Code code.0)) (Ok (Acknowledged host seq (eqb code.0 1))) in x) in
-    let a = bind_ok (number_at (Length len) w16 body) (λ host. number_at (Length len) w32 host.1 >>= λ seq. byte_at (Length len) seq.1 >>= λ code. last host.0 seq.0 code) r e in
+    let last = λ (host seq : ℕ) (code : ℕ
+    × List ℕ). (let x : Result Reply FrameFault = cond (ltb 1 code.0) (Err (Code code.0)) (Ok (Acknowledged host seq (eqb code.0 1))) in x) in
+    let a = bind_ok (number_at (Length len) w16 body)
+    (λ host. number_at (Length len) w32 host.1 >>= λ seq. byte_at (Length len) seq.1 >>= λ code. last host.0 seq.0 code) r e in
     let b = bind_ok (number_at (Length len) w32 a.0.1) (λ seq. byte_at (Length len) seq.1 >>= λ code. last a.0.0 seq.0 code) r a.2 in
     let c = bind_ok (byte_at (Length len) b.0.1) (λ code. last a.0.0 b.0.0 code) r b.2 in
     let made : Reply = Acknowledged a.0.0 b.0.0 (eqb c.0.0 1) in
@@ -124,7 +145,8 @@ acknowledged_takes len body r fits size e =
     let t3 = byte_takes (Length len) b.0.1 c.0 t2.0.rest_fits c.1 in
     let s2 = Takes-then a.0.1 (to_be_bytes w32 b.0.0) b.0.1 (c.0.0 ∷ []) c.0.1 t2.0 t3.0 in
     let s1 = Takes-then body (to_be_bytes w16 a.0.0) a.0.1 (to_be_bytes w32 b.0.0 ++ c.0.0 ∷ []) c.0.1 t1.0 s2 in
-    let all : body ≡ to_be_bytes w16 a.0.0 ++ (to_be_bytes w32 b.0.0 ++ c.0.0 ∷ []) = all_of body (to_be_bytes w16 a.0.0 ++ (to_be_bytes w32 b.0.0 ++ c.0.0 ∷ [])) c.0.1 s1.parts size in
+    let all : body ≡ to_be_bytes w16 a.0.0 ++ (to_be_bytes w32 b.0.0 ++ c.0.0 ∷ []) =
+    all_of body (to_be_bytes w16 a.0.0 ++ (to_be_bytes w32 b.0.0 ++ c.0.0 ∷ [])) c.0.1 s1.parts size in
     let text : body ≡ reply_fields made = all ∙ ap (λ (n : ℕ). to_be_bytes w16 a.0.0 ++ (to_be_bytes w32 b.0.0 ++ n ∷ [])) (code_is c.0.0 g.0) in
     subst (λ (x : Reply). Read body 0x82 x) {x = made} g.1 ((t1.1, t2.1), text, refl)
 
@@ -144,7 +166,8 @@ zero_is key e =
 abbrev Told : ℕ → Key → RefusedWhy → Type 0
 Told code key reason = (code ≡ why_code reason) × (key ≡ why_key reason)
 
-no_key : (code : ℕ) (key : Key) (made reason : RefusedWhy) → (code ≡ why_code made) → (zero_key ≡ why_key made) → cond (is_zero_key key) (Ok made) (Err KeyNotZero) ≡ Ok reason → Told code key reason
+no_key : (code : ℕ) (key : Key) (made reason : RefusedWhy) → (code ≡ why_code made) → (zero_key ≡ why_key made)
+    → cond (is_zero_key key) (Ok made) (Err KeyNotZero) ≡ Ok reason → Told code key reason
 no_key code key made reason code-is key-is e =
     let g = guarded (is_zero_key key) KeyNotZero made reason e in
     subst (λ (x : RefusedWhy). Told code key x) g.1 (code-is, zero_is key g.0 ∙ key-is)
@@ -169,9 +192,12 @@ refused_takes : (len : ℕ) (body : List ℕ) (r : Reply) → IsBytes body → l
 unfolding refused_at
 refused_takes len body r fits size e =
     let last = λ (host seq : ℕ) (reason : RefusedWhy). (let x : Result Reply FrameFault = Ok (Refused host seq reason) in x) in
-    let a = bind_ok (number_at (Length len) w16 body) (λ host. number_at (Length len) w32 host.1 >>= λ seq. byte_at (Length len) seq.1 >>= λ code. key_at (Length len) code.1 >>= λ key. why_of code.0 key.0 >>= λ reason. last host.0 seq.0 reason) r e in
-    let b = bind_ok (number_at (Length len) w32 a.0.1) (λ seq. byte_at (Length len) seq.1 >>= λ code. key_at (Length len) code.1 >>= λ key. why_of code.0 key.0 >>= λ reason. last a.0.0 seq.0 reason) r a.2 in
-    let c = bind_ok (byte_at (Length len) b.0.1) (λ code. key_at (Length len) code.1 >>= λ key. why_of code.0 key.0 >>= λ reason. last a.0.0 b.0.0 reason) r b.2 in
+    let a = bind_ok (number_at (Length len) w16 body) (λ host. number_at (Length len) w32 host.1 >>= λ seq. byte_at (Length len) seq.1 >>= λ code. key_at
+    (Length len) code.1 >>= λ key. why_of code.0 key.0 >>= λ reason. last host.0 seq.0 reason) r e in
+    let b = bind_ok (number_at (Length len) w32 a.0.1)
+    (λ seq. byte_at (Length len) seq.1 >>= λ code. key_at (Length len) code.1 >>= λ key. why_of code.0 key.0 >>= λ reason. last a.0.0 seq.0 reason) r a.2 in
+    let c = bind_ok (byte_at (Length len) b.0.1)
+    (λ code. key_at (Length len) code.1 >>= λ key. why_of code.0 key.0 >>= λ reason. last a.0.0 b.0.0 reason) r b.2 in
     let d = bind_ok (key_at (Length len) c.0.1) (λ key. why_of c.0.0 key.0 >>= λ reason. last a.0.0 b.0.0 reason) r c.2 in
     let w = bind_ok (why_of c.0.0 d.0.0) (λ reason. last a.0.0 b.0.0 reason) r d.2 in
     let t1 = number_takes (Length len) w16 (2 ^ 16) wide16 body a.0 fits a.1 in
@@ -183,15 +209,18 @@ refused_takes len body r fits size e =
     let s2 = Takes-then a.0.1 (to_be_bytes w32 b.0.0) b.0.1 (c.0.0 ∷ column_key_bytes d.0.0) d.0.1 t2.0 s3 in
     let s1 = Takes-then body (to_be_bytes w16 a.0.0) a.0.1 (to_be_bytes w32 b.0.0 ++ c.0.0 ∷ column_key_bytes d.0.0) d.0.1 t1.0 s2 in
     let long : length body ≡ length (to_be_bytes w16 a.0.0 ++ (to_be_bytes w32 b.0.0 ++ c.0.0 ∷ column_key_bytes d.0.0)) = omega (arith, size, key_len d.0.0) in
-    let all : body ≡ to_be_bytes w16 a.0.0 ++ (to_be_bytes w32 b.0.0 ++ c.0.0 ∷ column_key_bytes d.0.0) = all_of body (to_be_bytes w16 a.0.0 ++ (to_be_bytes w32 b.0.0 ++ c.0.0 ∷ column_key_bytes d.0.0)) d.0.1 s1.parts long in
+    let all : body ≡ to_be_bytes w16 a.0.0 ++ (to_be_bytes w32 b.0.0 ++ c.0.0 ∷ column_key_bytes d.0.0) =
+    all_of body (to_be_bytes w16 a.0.0 ++ (to_be_bytes w32 b.0.0 ++ c.0.0 ∷ column_key_bytes d.0.0)) d.0.1 s1.parts long in
     let text : body ≡ reply_fields (Refused a.0.0 b.0.0 w.0) =
-    all ∙ ap (λ (n : ℕ). to_be_bytes w16 a.0.0 ++ (to_be_bytes w32 b.0.0 ++ n ∷ column_key_bytes d.0.0)) told.0 ∙ ap (λ (k : Key). to_be_bytes w16 a.0.0 ++ (to_be_bytes w32 b.0.0 ++ why_code w.0 ∷ column_key_bytes k)) told.1 in
+    all ∙ ap (λ (n : ℕ). to_be_bytes w16 a.0.0 ++ (to_be_bytes w32 b.0.0 ++ n ∷ column_key_bytes d.0.0)) told.0
+    ∙ ap (λ (k : Key). to_be_bytes w16 a.0.0 ++ (to_be_bytes w32 b.0.0 ++ why_code w.0 ∷ column_key_bytes k)) told.1 in
     subst (λ (x : Reply). Read body 0x83 x) (ok_is (Refused a.0.0 b.0.0 w.0) r w.2) ((t1.1, t2.1, subst FitsKey told.1 t4.1), text, refl)
 
 not_kind : (k : ℕ) → eqb k 0x81 ≡ false → eqb k 0x82 ≡ false → eqb k 0x83 ≡ false → eqb k 0x84 ≡ false → reply_lens k ≡ None
 not_kind k a b c d = rw (a, b, c, d) refl
 
-fields_take : (len k : ℕ) (range : ℕ × ℕ) (body : List ℕ) (r : Reply) → IsBytes body → length body + 1 ≡ len → reply_lens k ≡ Some range → fits_lens range len ≡ true → reply_fields_at len k body ≡ Ok r → Read body k r
+fields_take : (len k : ℕ) (range : ℕ × ℕ) (body : List ℕ) (r : Reply) → IsBytes body → length body + 1 ≡ len → reply_lens k ≡ Some range
+    → fits_lens range len ≡ true → reply_fields_at len k body ≡ Ok r → Read body k r
 unfolding reply_fields_at
 fields_take len k range body r fits long known size e = one (eqb k 0x81) refl
   where
@@ -205,15 +234,18 @@ fields_take len k range body r fits long known size e = one (eqb k 0x81) refl
     back n k-is h = subst (λ (x : ℕ). Read body x r) (sym k-is) h
 
     four : (a : eqb k 0x81 ≡ false) (b : eqb k 0x82 ≡ false) (c : eqb k 0x83 ≡ false) (t : Bool) → eqb k 0x84 ≡ t → Read body k r
-    four a b c true h = let k-is = eqb-true k 0x84 h in back 0x84 k-is (goodbye_takes len body r fits (omega (arith, fixed 0x84 3 k-is refl, long)) (at 0x84 k-is))
+    four a b c true h = let k-is = eqb-true k 0x84 h in back 0x84 k-is (goodbye_takes len body r fits (omega (arith, fixed 0x84 3 k-is refl, long))
+        (at 0x84 k-is))
     four a b c false h = absurd (no_range range (reply_lens k) (not_kind k a b c h) known)
 
     three : (a : eqb k 0x81 ≡ false) (b : eqb k 0x82 ≡ false) (t : Bool) → eqb k 0x83 ≡ t → Read body k r
-    three a b true h = let k-is = eqb-true k 0x83 h in back 0x83 k-is (refused_takes len body r fits (omega (arith, fixed 0x83 16 k-is refl, long)) (at 0x83 k-is))
+    three a b true h = let k-is = eqb-true k 0x83 h in back 0x83 k-is (refused_takes len body r fits (omega (arith, fixed 0x83 16 k-is refl, long))
+        (at 0x83 k-is))
     three a b false h = four a b h (eqb k 0x84) refl
 
     two : (a : eqb k 0x81 ≡ false) (t : Bool) → eqb k 0x82 ≡ t → Read body k r
-    two a true h = let k-is = eqb-true k 0x82 h in back 0x82 k-is (acknowledged_takes len body r fits (omega (arith, fixed 0x82 8 k-is refl, long)) (at 0x82 k-is))
+    two a true h = let k-is = eqb-true k 0x82 h in back 0x82 k-is (acknowledged_takes len body r fits (omega (arith, fixed 0x82 8 k-is refl, long))
+        (at 0x82 k-is))
     two a false h = three a h (eqb k 0x83) refl
 
     one : (t : Bool) → eqb k 0x81 ≡ t → Read body k r

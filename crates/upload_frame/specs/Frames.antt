@@ -1,5 +1,6 @@
 -- Frames, which hosts send: their kinds, their fields and their one spelling.
-use Rattle.std.specs.Prelude.{◌≡◌, ℕ, zero, suc, ◌<◌, ◌^◌, ◌||◌, ◌==◌, nat_lt, List, [], ◌∷◌, ◌++◌, length, drop, Option, None, Some, Result, Ok, Err, if◌then◌else◌}
+use Rattle.std.specs.Prelude.{◌≡◌, ℕ, zero, suc, ◌<◌, ◌^◌, ◌||◌, ◌==◌, nat_lt, List, []}
+use Rattle.std.specs.Prelude.{◌∷◌, ◌++◌, length, drop, Option, None, Some, Result, Ok, Err, if◌then◌else◌}
 use Rattle.std.specs.List.{flat_map}
 use Rattle.std.specs.Int.{w16, w32, to_be_bytes}
 use Rattle.byte_fields.specs.Reading.{◌>>=◌, byte_at, number_at}
@@ -80,7 +81,7 @@ upload_head_at len body = do
   seq ← number_at (Length len) w32 host.1
   count ← byte_at (Length len) seq.1
   if nat_lt count.0 1 || nat_lt MOST_UPLOAD_COLUMNS count.0 then Err (Count count.0)
-    else Ok (upload_head host.0 seq.0 count.0, count.1)
+      else Ok (upload_head host.0 seq.0 count.0, count.1)
 
 unfoldable pub upload_at : (len : ℕ) → List ℕ → Result Frame FrameFault
 upload_at len body = do

@@ -25,7 +25,8 @@ pub record LawOfFronts {F : Type 0} (format : Format F) : Type 0 where
   pub none : (bytes : List ℕ) → IsUnfinished format.lens bytes → front_at format bytes ≡ Ok None
 
 -- The stream is the spellings of these frames, one after the other, up to a rest that ends so.
-pub record Parts {F : Type 0} (format : Format F) (Is : F → Type 0) (spelled : F → List ℕ) (stream : List ℕ) (fs : List F) (end : Option FrameFault) : Type 0 where
+pub record Parts {F : Type 0} (format : Format F) (Is : F → Type 0) (spelled : F
+    → List ℕ) (stream : List ℕ) (fs : List F) (end : Option FrameFault) : Type 0 where
   pub rest : List ℕ
   pub whole : stream ≡ flat_map spelled fs ++ rest
   pub each : AllByRecursion Is fs
@@ -44,8 +45,10 @@ pub record LawOfFrames {F : Type 0} (format : Format F) (Is : F → Type 0) (spe
 pub record LawOfReaders {F : Type 0} (format : Format F) : Type 0 where
   pub start : Follows format [] [] (reader_of [] 0 None)
   pub fed : (stream : List ℕ) (fs : List F) (r : ReaderData) (piece : List ℕ) → Follows format stream fs r → Follows format (stream ++ piece) fs (fed r piece)
-  pub gave : (stream : List ℕ) (fs : List F) (f : F) (r new : ReaderData) → Follows format stream fs r → Stepped format r (Ok (Some f)) new → Follows format stream (fs ++ f ∷ []) new
-  pub none : (stream : List ℕ) (fs : List F) (r new : ReaderData) → Follows format stream fs r → Stepped format r (Ok None) new → (r ≡ new) × Streams format stream fs None
+  pub gave : (stream : List ℕ) (fs : List F) (f : F) (r new : ReaderData) → Follows format stream fs r → Stepped format r (Ok (Some f)) new
+      → Follows format stream (fs ++ f ∷ []) new
+  pub none : (stream : List ℕ) (fs : List F) (r new : ReaderData) → Follows format stream fs r → Stepped format r (Ok None) new → (r ≡ new)
+      × Streams format stream fs None
   pub failed : (stream : List ℕ) (fs : List F) (f : FrameFault) (r new : ReaderData) → Follows format stream fs r → Stepped format r (Err (next.Frame f)) new
       → Follows format stream fs new × (new.fault ≡ Some f) × Streams format stream fs (Some f)
 

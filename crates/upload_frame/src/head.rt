@@ -42,7 +42,8 @@ fn lengths_of(side: Side, kind: u8) -> Option<(u16, u16)>
 /// checks of length and kind that fails, in the order of docs/FORMATS.md, Frames.
 #[tactic(auto, unfolding(crate::specs::Front::head_at))]
 pub(crate) fn head_of(side: Side, bytes: &[u8]) -> Result<Option<(u8, u16)>, FrameFault>
-    ensures gives { Gives (λ o. option_map (λ x. head_of_parts x.0 x.1 (slice_range bytes.now 3 (x.1 + 2))) o) result (head_at (lens_of side) bytes.now) }
+    ensures gives { Gives (λ o. option_map (λ x. head_of_parts x.0 x.1 (slice_range bytes.now 3 (x.1 + 2))) o) result
+        (head_at (lens_of side) bytes.now) }
     ensures inside { IfOk result (λ o. IfSome o (λ x. (1 ≤ x.1) × (x.1 + 2 ≤ length bytes.now))) }
 {
     if bytes.len() < 2 {

@@ -13,7 +13,8 @@ use std::alloc::Global;
 // Takes all frames that are there.
 fn drain(reader: &mut Reader, out: &mut Vec<Frame>) -> Result<Option<FrameFault>, Memory>
     ensures { (stream : List ℕ) → Follows frames stream out.old.items reader.old →
-        IfOk result (λ end. Follows frames stream out.new.items reader.new × (reader.new.fault ≡ end) × IsDry frames reader.new.rest reader.new.fault) }
+        IfOk result (λ end. Follows frames stream out.new.items reader.new × (reader.new.fault ≡ end)
+        × IsDry frames reader.new.rest reader.new.fault) }
 {
     loop {
         match reader.next() {

@@ -1,5 +1,5 @@
 //! Readers of frames and of replies.
-ghost use Rattle.std.specs.Prelude.{◌≡◌, ◌<◌, ◌+◌, ◌^◌, length, IfOk, OnErr, OnOk, None, []};
+ghost use Rattle.std.specs.Prelude.{◌≡◌, ◌<◌, ◌+◌, ◌-◌, ◌^◌, length, IfOk, OnErr, OnOk, None, []};
 ghost use Rattle.sketchlet_wire.specs.Uploads.{IsFull, UploadData};
 ghost use Rattle.upload_frame.specs.Frames.{frame_of, frames};
 ghost use Rattle.upload_frame.specs.Machine.{reader_of, fed, Stepped};
@@ -69,6 +69,13 @@ impl Reader {
         self.stream.settle(front)
     }
 
+    /// How many bytes the reader can still be fed: 2^63 - 1 but for those of the frames taken and of the rest.
+    pub fn left(&self) -> u64
+        ensures { result + self.now.taken + length self.now.rest ≡ 2 ^ 63 - 1 }
+    {
+        self.stream.left()
+    }
+
     /// How many bytes the frames have that were taken.
     pub fn frame_bytes(&self) -> u64
         ensures { result ≡ self.now.taken }
@@ -126,6 +133,13 @@ impl ReplyReader {
         }
         let front = reply_at(self.stream.rest());
         self.stream.settle(front)
+    }
+
+    /// How many bytes the reader can still be fed: 2^63 - 1 but for those of the replies taken and of the rest.
+    pub fn left(&self) -> u64
+        ensures { result + self.now.taken + length self.now.rest ≡ 2 ^ 63 - 1 }
+    {
+        self.stream.left()
     }
 
     /// How many bytes the replies have that were taken.

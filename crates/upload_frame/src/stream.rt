@@ -1,5 +1,5 @@
 //! The bytes of a stream that are not yet frames, for both readers.
-ghost use Rattle.std.specs.Prelude.{◌≡◌, ◌<◌, ◌≤◌, ◌+◌, ◌^◌, length, IfOk, IfSome, OnErr, OnOk, None, [], drop};
+ghost use Rattle.std.specs.Prelude.{◌≡◌, ◌<◌, ◌≤◌, ◌+◌, ◌-◌, ◌^◌, length, IfOk, IfSome, OnErr, OnOk, None, [], drop};
 ghost use Rattle.upload_frame.specs.Machine.{reader_of, fed, Settled};
 
 use crate::fault::{FrameFault, NextFault};
@@ -76,6 +76,13 @@ impl Stream {
         ensures { result ≡ self.now.taken }
     {
         self.taken
+    }
+
+    // How many bytes can still be fed.
+    pub(crate) fn left(&self) -> u64
+        ensures { result + self.now.taken + length self.now.rest ≡ 2 ^ 63 - 1 }
+    {
+        (1 << 63) - 1 - self.taken - self.rest().len() as u64
     }
 
     pub(crate) fn rest(&self) -> &[u8]

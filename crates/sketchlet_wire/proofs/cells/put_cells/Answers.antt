@@ -42,4 +42,5 @@ returns-clause-bytes c =
     let all : length bs ≡ c.args.column.now.dims.rows = c.dims-rows.ensures.admitted.cells.buckets in
     let whole : take i bs ≡ bs = take_all i bs (omega (arith, rows, all)) in
     let same : 6 * i ≡ 6 * c.from-2.result = omega (arith, rows, c.from-2.ensures) in
-    c.loop-i.invariant.1 ∙ ap (λ (x : List Bucket). flat_map bucket_bytes x ++ drop (6 * i) old) whole ∙ ap (λ (n : ℕ). flat_map bucket_bytes bs ++ drop n old) same
+    c.loop-i.invariant.1 ∙ ap (λ (x : List Bucket). flat_map bucket_bytes x ++ drop (6 * i) old) whole
+    ∙ ap (λ (n : ℕ). flat_map bucket_bytes bs ++ drop n old) same

@@ -12,4 +12,5 @@ pub returns-clause-whole : goal.returns-clause-whole
 returns-clause-whole c = λ column is e. c.read.ensures ∙ is_whole c.args.bytes.now column is e
 
 pub returns-clause-inside : goal.returns-clause-inside
-returns-clause-inside c = is_inside c.args.bytes.now c.read.result (is_found c.args.bytes.now c.read.result (λ i. omega (arith, c.type_inv.bytes i)) c.read.ensures)
+returns-clause-inside c = is_inside c.args.bytes.now c.read.result
+    (is_found c.args.bytes.now c.read.result (λ i. omega (arith, c.type_inv.bytes i)) c.read.ensures)
