@@ -38,9 +38,11 @@ cut_ended : (xs : List ℕ) (k : Cut xs) → Ended k.more → Ended xs
 cut_ended xs k rest s lt =
     let d : decide s (words_at 10 xs) ≡ (length k.line + 1) + after_len (line_of s (strip_carriage_return k.line)) (λ t. decide t (words_at 10 k.more)) = ap (λ (ys : List ℕ). decide s (words_at 10 ys)) k.is ∙ decide_ends s k.line k.more k.unbroken in
     let small : (length k.line + 1) + after_len (line_of s (strip_carriage_return k.line)) (λ t. decide t (words_at 10 k.more)) < length (k.line ++ 10 ∷ k.more) = omega (arith, lt, d, ap length k.is) in
-    let e = ended_after k.line k.more (line_of s (strip_carriage_return k.line)) rest small in
-    (e.0, ap (λ (m : ℕ). take m xs) d ∙ ap (λ (ys : List ℕ). take ((length k.line + 1) + after_len (line_of s (strip_carriage_return k.line)) (λ t. decide t (words_at 10 k.more))) ys) k.is
-        ∙ take_past k.line k.more _ ∙ e.1)
+    let e = ended_after k.line k.more (line_of s (strip_carriage_return k.line)) rest small in (
+      e.0,
+      ap (λ (m : ℕ). take m xs) d ∙ ap (λ (ys : List ℕ). take ((length k.line + 1) + after_len (line_of s (strip_carriage_return k.line)) (λ t. decide t (words_at 10 k.more))) ys) k.is
+          ∙ take_past k.line k.more _ ∙ e.1,
+    )
 
 ended_by : (fuel : ℕ) (xs : List ℕ) → ((ys : List ℕ) → length ys ≤ fuel → Ended ys) → length xs ≤ suc fuel → IsUnbroken xs ⊎ Cut xs → Ended xs
 ended_by fuel xs ih le (inl h) = λ s lt. absurd (omega (arith, lt, alone s xs h))
