@@ -1,5 +1,5 @@
 -- A line is never refused because the text is unfinished or too long.
-use Rattle.std.proofs.Common.{◌≡◌, ℕ, Bool, true, false, eqb, leb, ltb, ◌&&◌, List, [], ◌∷◌, ◌++◌, length, Option, Some, None, Result, Ok, Err, refl, ◌⊎◌, inl, inr, subst, sym}
+use Rattle.std.proofs.Common.{◌≡◌, ℕ, Bool, true, false, eqb, ◌&&◌, List, [], ◌∷◌, ◌++◌, length, Option, Some, None, Result, Ok, Err, refl}
 use Rattle.std.specs.Prelude.{if◌then◌else◌, slice_get, codes, nat_le, nat_lt}
 use Rattle.std.specs.List.{list_any, list_all, position}
 use Rattle.std.specs.Str.{bytes_eq}
@@ -9,7 +9,6 @@ use Rattle.lg_model.specs.declared.limits.TheConstants.{MOST_ROWS, MOST_WIDTH, M
 use Rattle.lg_model.specs.declared.scenario.HostLine.{HostLine}
 use Rattle.lg_model.specs.declared.scenario.Flow.{Flow}
 use Rattle.lg_model.specs.declared.scenario.Step.{Step}
-use Rattle.lg_model.specs.Scenario.{packet_count}
 use Rattle.scenario_lines.specs.declared.why.Why.{Why}
 use Rattle.scenario_lines.specs.declared.why.Why.TheVariants as whys
 use Rattle.scenario_lines.specs.declared.section.Keyword.{Keyword}
@@ -19,7 +18,7 @@ use Rattle.scenario_lines.specs.Counts.{names_of, path_at, ends_of}
 use Rattle.text_out.specs.Words.{Words}
 use Rattle.scenario_lines.specs.Draft.{State}
 use Rattle.scenario_lines.specs.Fields.{◌>>=◌, number, word, no_more, fresh_name, known_name, position_of, fresh_host, host_position, fresh_flow, room, room_to, all_room, room_for_all, or_bad_key, key_address, key_number, key, hop, path, hash, pick, is_letter, letters_word, delays, burst, fate_ended, fate}
-use Rattle.scenario_lines.specs.Line.{shape_line, pick_line, host_line, switch_line, flow_line, no_letters, unlinked, link_line, packet_line, end_one, end_all, end_line, release_line, ask_line, done_line, form_of, known_line, words_line, first_line, is_skipped, line_of}
+use Rattle.scenario_lines.specs.Line.{shape_line, pick_line, host_line, switch_line, flow_line, no_letters, unlinked, link_line, packet_line, end_one, end_all, end_line, release_line, ask_line, done_line, form_of, known_line, words_line, is_skipped, line_of}
 
 -- A why of a line, and not of a whole text.
 abbrev pub IsOfALine : Why → Type 0

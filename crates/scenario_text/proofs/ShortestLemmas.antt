@@ -1,9 +1,8 @@
 -- The deciding prefix ends with 0A where bytes follow it, and no shorter prefix decides.
 use Rattle.std.proofs.Common.{◌≡◌, ℕ, suc, zero, ◌+◌, ◌-◌, ◌<◌, ◌≤◌, Bool, true, false, eqb, List, [], ◌∷◌, ◌++◌, length, length-append, length-take, take, Result, Ok, Err, refl, sym, ap, ◌∙◌, append_assoc, ◌⊎◌, inl, inr, arith}
 use Rattle.std.specs.Str.Lines.{strip_carriage_return}
-use Rattle.std.proofs.Math.Seq.{take-append-add}
 use Rattle.std.proofs.lemmas.Bool.{cases_lt}
-use Rattle.std.proofs.lemmas.List.{take-take, take_all, take-append-le, append-nil}
+use Rattle.std.proofs.lemmas.List.{take-take, take_all, take-append-le}
 use Rattle.std.proofs.lemmas.List.Elements.{All-take}
 use Rattle.flow_key.specs.Words.{words_at}
 use Rattle.lg_model.specs.declared.limits.TheConstants.{MOST_TEXT_BYTES}
@@ -11,7 +10,7 @@ use Rattle.scenario_lines.specs.declared.why.Why.{Why}
 use Rattle.scenario_lines.specs.Sections.{is_done}
 use Rattle.scenario_lines.specs.Draft.{State, start}
 use Rattle.scenario_lines.specs.Line.{line_of}
-use Rattle.scenario_text.specs.Text.{after_len, decide, deciding_len, deciding, DecideNothing, IsShortest}
+use Rattle.scenario_text.specs.Text.{after_len, decide, deciding_len, IsShortest}
 use Rattle.scenario_text.specs.Reading.{IsUnbroken}
 use Rattle.scenario_text.proofs.DecidingLemmas.{Cut, cut, alone, take_past}
 use Rattle.scenario_text.proofs.SpentLemmas.{decide_ends}

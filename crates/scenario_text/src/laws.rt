@@ -1,11 +1,9 @@
 //! Laws over the definitions, each on a function with an empty body.
-ghost use Rattle.std.specs.Prelude.{◌≡◌, ◌==◌, ◌+◌, ℕ, List, Ok, Err};
-ghost use Rattle.std.specs.List.{count_by};
+ghost use Rattle.std.specs.Prelude.{◌≡◌, ℕ, List, Ok};
 ghost use Rattle.lg_model.specs.Scenario.{Scenario};
-ghost use Rattle.scenario_lines.specs.declared.why.Why.{Why};
 ghost use Rattle.scenario_parts.specs.Printed.{text_of};
 ghost use Rattle.scenario_parts.specs.Whole.{IsWhole};
-ghost use Rattle.scenario_text.specs.Text.{reading, deciding, IsShortest, IsUnfinished};
+ghost use Rattle.scenario_text.specs.Text.{reading, deciding, IsShortest, LawOfTheLastLine};
 ghost use Rattle.scenario_text.specs.Worked.{WorkedTexts};
 
 /// The deciding prefix of an input says what the whole input says.
@@ -21,7 +19,7 @@ pub fn prefix_is_shortest()
 
 /// The line of an unfinished or too long text is one more than the 0A in its deciding prefix.
 pub fn unfinished_line_is_the_last()
-    ensures { (input : List ℕ) (n : ℕ) (why : Why) → IsUnfinished why → reading input ≡ Err (n, why) → n ≡ count_by (λ b. b == 10) (deciding input) + 1 }
+    ensures { LawOfTheLastLine }
 {}
 
 /// The reading, worked out by computation at texts with known answers.
