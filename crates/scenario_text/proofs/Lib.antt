@@ -14,3 +14,5 @@ pub mod GoodText
 pub mod LengthLemmas
 pub mod InRangeLemmas
 pub mod ShortestLemmas
+pub mod LineWhys
+pub mod UnfinishedLemmas

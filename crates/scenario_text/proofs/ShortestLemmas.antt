@@ -1,9 +1,8 @@
 -- The deciding prefix ends with 0A where bytes follow it, and no shorter prefix decides.
 use Rattle.std.proofs.Common.{◌≡◌, ℕ, suc, zero, ◌+◌, ◌-◌, ◌<◌, ◌≤◌, Bool, true, false, eqb, List, [], ◌∷◌, ◌++◌, length, length-append, length-take, take, Result, Ok, Err, refl, sym, ap, ◌∙◌, append_assoc, ◌⊎◌, inl, inr, arith}
 use Rattle.std.specs.Str.Lines.{strip_carriage_return}
-use Rattle.std.proofs.Math.Seq.{take-append-add}
 use Rattle.std.proofs.lemmas.Bool.{cases_lt}
-use Rattle.std.proofs.lemmas.List.{take-take, take_all, take-append-le, append-nil}
+use Rattle.std.proofs.lemmas.List.{take-take, take_all, take-append-le}
 use Rattle.std.proofs.lemmas.List.Elements.{All-take}
 use Rattle.flow_key.specs.Words.{words_at}
 use Rattle.lg_model.specs.declared.limits.TheConstants.{MOST_TEXT_BYTES}
@@ -11,7 +10,7 @@ use Rattle.scenario_lines.specs.declared.why.Why.{Why}
 use Rattle.scenario_lines.specs.Sections.{is_done}
 use Rattle.scenario_lines.specs.Draft.{State, start}
 use Rattle.scenario_lines.specs.Line.{line_of}
-use Rattle.scenario_text.specs.Text.{after_len, decide, deciding_len, deciding, DecideNothing, IsShortest}
+use Rattle.scenario_text.specs.Text.{after_len, decide, deciding_len, IsShortest}
 use Rattle.scenario_text.specs.Reading.{IsUnbroken}
 use Rattle.scenario_text.proofs.DecidingLemmas.{Cut, cut, alone, take_past}
 use Rattle.scenario_text.proofs.SpentLemmas.{decide_ends}
@@ -38,9 +37,11 @@ cut_ended : (xs : List ℕ) (k : Cut xs) → Ended k.more → Ended xs
 cut_ended xs k rest s lt =
     let d : decide s (words_at 10 xs) ≡ (length k.line + 1) + after_len (line_of s (strip_carriage_return k.line)) (λ t. decide t (words_at 10 k.more)) = ap (λ (ys : List ℕ). decide s (words_at 10 ys)) k.is ∙ decide_ends s k.line k.more k.unbroken in
     let small : (length k.line + 1) + after_len (line_of s (strip_carriage_return k.line)) (λ t. decide t (words_at 10 k.more)) < length (k.line ++ 10 ∷ k.more) = omega (arith, lt, d, ap length k.is) in
-    let e = ended_after k.line k.more (line_of s (strip_carriage_return k.line)) rest small in
-    (e.0, ap (λ (m : ℕ). take m xs) d ∙ ap (λ (ys : List ℕ). take ((length k.line + 1) + after_len (line_of s (strip_carriage_return k.line)) (λ t. decide t (words_at 10 k.more))) ys) k.is
-        ∙ take_past k.line k.more _ ∙ e.1)
+    let e = ended_after k.line k.more (line_of s (strip_carriage_return k.line)) rest small in (
+      e.0,
+      ap (λ (m : ℕ). take m xs) d ∙ ap (λ (ys : List ℕ). take ((length k.line + 1) + after_len (line_of s (strip_carriage_return k.line)) (λ t. decide t (words_at 10 k.more))) ys) k.is
+          ∙ take_past k.line k.more _ ∙ e.1,
+    )
 
 ended_by : (fuel : ℕ) (xs : List ℕ) → ((ys : List ℕ) → length ys ≤ fuel → Ended ys) → length xs ≤ suc fuel → IsUnbroken xs ⊎ Cut xs → Ended xs
 ended_by fuel xs ih le (inl h) = λ s lt. absurd (omega (arith, lt, alone s xs h))

@@ -14,7 +14,7 @@ use Rattle.scenario_lines.specs.Draft.{State, view, start}
 use Rattle.scenario_text.specs.Sources.{Comes}
 use Rattle.flow_key.specs.Words.{words_at}
 use Rattle.lg_model.specs.declared.limits.TheConstants.{MOST_TEXT_BYTES}
-use Rattle.scenario_text.specs.Text.{decide, deciding_len, IsTaken, IsUndecided, Took}
+use Rattle.scenario_text.specs.Text.{decide, deciding_len, IsTaken, Took}
 use Rattle.scenario_text.specs.Reading.{needs, Spent, IsUnbroken, StillNeeds}
 use Rattle.scenario_text.proofs.ReadLemmas.{come}
 use Rattle.scenario_text.proofs.ReaderLemmas.{unbroken_both}

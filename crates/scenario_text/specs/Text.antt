@@ -1,5 +1,6 @@
 -- What a whole text says: its scenario, or its first faulty line and why.
-use Rattle.std.specs.Prelude.{◌≡◌, ℕ, ◌+◌, ◌<◌, ◌≤◌, Bool, List, [], ◌∷◌, ◌++◌, length, take, drop, Option, Some, Result, Ok, Err, nat_le, if◌then◌else◌}
+use Rattle.std.specs.Prelude.{◌≡◌, ◌==◌, ℕ, ◌+◌, ◌<◌, ◌≤◌, Bool, List, [], ◌∷◌, ◌++◌, ◌⊎◌, length, take, drop, Option, Some, Result, Ok, Err, nat_le, if◌then◌else◌}
+use Rattle.std.specs.List.{count_by}
 use Rattle.std.specs.Str.Lines.{strip_carriage_return}
 use Rattle.flow_key.specs.Words.{words_at}
 use Rattle.lg_model.specs.declared.limits.TheConstants.{MOST_TEXT_BYTES}
@@ -80,6 +81,15 @@ DecideNothing input n = (next : ℕ) → n < deciding_len (take n input ++ next 
 pub record IsShortest (input : List ℕ) : Type 0 where
   pub ended : deciding_len input < length (take MOST_TEXT_BYTES input) → (front : List ℕ) × (deciding input ≡ front ++ 10 ∷ [])
   pub none_before : (n : ℕ) → n < deciding_len input → DecideNothing input n
+
+-- A why of a whole text: its last line is no `done`, or none stands in the bytes that are looked at.
+abbrev pub IsUnfinished : Why → Type 0
+IsUnfinished why = (why ≡ NoDone) ⊎ (why ≡ TooLong)
+
+-- The line of an unfinished or too long text is one more than the 0A in its deciding prefix.
+abbrev pub LawOfTheLastLine : Type 0
+LawOfTheLastLine = (input : List ℕ) (n : ℕ) (why : Why) → IsUnfinished why → reading input ≡ Err (n, why)
+    → n ≡ count_by (λ b. b == 10) (deciding input) + 1
 
 -- Some of the input was taken, and decides nothing yet.
 pub record IsUndecided (input : List ℕ) (left : Option (List ℕ)) : Type 0 where

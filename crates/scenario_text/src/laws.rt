@@ -3,7 +3,7 @@ ghost use Rattle.std.specs.Prelude.{◌≡◌, ℕ, List, Ok};
 ghost use Rattle.lg_model.specs.Scenario.{Scenario};
 ghost use Rattle.scenario_parts.specs.Printed.{text_of};
 ghost use Rattle.scenario_parts.specs.Whole.{IsWhole};
-ghost use Rattle.scenario_text.specs.Text.{reading, deciding, IsShortest};
+ghost use Rattle.scenario_text.specs.Text.{reading, deciding, IsShortest, LawOfTheLastLine};
 ghost use Rattle.scenario_text.specs.Worked.{WorkedTexts};
 
 /// The deciding prefix of an input says what the whole input says.
@@ -15,6 +15,11 @@ pub fn prefix_decides()
 /// looked at, and after a shorter prefix any byte would count.
 pub fn prefix_is_shortest()
     ensures { (input : List ℕ) → IsShortest input }
+{}
+
+/// The line of an unfinished or too long text is one more than the 0A in its deciding prefix.
+pub fn unfinished_line_is_the_last()
+    ensures { LawOfTheLastLine }
 {}
 
 /// The reading, worked out by computation at texts with known answers.

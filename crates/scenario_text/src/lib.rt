@@ -30,10 +30,10 @@ mod tests;
 mod whys_tests;
 
 pub use fault::ScenarioFault;
-pub use laws::{prefix_decides, prefix_is_shortest, printed_is_read, worked_texts};
-pub use lg_model::{
-    Ask, Delays, Fate, Flow, HostLine, Letter, Letters, Path, Pick, Step,
+pub use laws::{
+    prefix_decides, prefix_is_shortest, printed_is_read, unfinished_line_is_the_last, worked_texts,
 };
+pub use lg_model::{Ask, Delays, Fate, Flow, HostLine, Letter, Letters, Path, Pick, Step};
 pub use printing::print;
 pub use reading::read;
 pub use scenario::Scenario;
