@@ -79,7 +79,8 @@ none_before q k v [] none = (elim (key_cmp q k) as (λ o. key_cmp q k ≡ o → 
 ]) refl none
 none_before q k v (e ∷ es) none =
     (elim (key_cmp k e.0) as (λ o. key_cmp k e.0 ≡ o →
-    lookup (is_at (key_cmp q)) (match_ordering o ((k, v) ∷ e ∷ es) ((e.0, v) ∷ es) (e ∷ insert_entry key_cmp es k v)) ≡ None → (found (e ∷ es) q ≡ None) × (k ≢ q)) [
+    lookup (is_at (key_cmp q)) (match_ordering o ((k, v) ∷ e ∷ es) ((e.0, v) ∷ es) (e ∷ insert_entry key_cmp es k v)) ≡ None →
+    (found (e ∷ es) q ≡ None) × (k ≢ q)) [
       | Less ↦ λ same. (elim (key_cmp q k) as (λ o. key_cmp q k ≡ o → cond (is_eq o) (Some v) (found (e ∷ es) q) ≡ None → (found (e ∷ es) q ≡ None) × (k ≢ q)) [
         | Less ↦ λ s h. (h, other_key k q Less s (λ x. absurd (omega (arith, x))))
         | Equal ↦ λ s h. let x = ap how_many h in absurd (omega (arith, x))
