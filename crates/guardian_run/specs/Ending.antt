@@ -27,4 +27,5 @@ TakesMemory refusals.Memory = ⊥
 -- A refusal ends at its status with its line, or where there is no memory for that line at `NoMemory`.
 abbrev pub EndsRefused : Refusal → (sink : Change) → Status → Type 0
 EndsRefused refusal sink s =
-    EndsWithLine (status_of refusal) (fault_line refusal) sink s ⊎ (TakesMemory refusal × EndsWithLine status.NoMemory no_memory_line sink s)
+    EndsWithLine (status_of refusal) (fault_line refusal) sink s
+    ⊎ (TakesMemory refusal × EndsWithLine status.NoMemory no_memory_line sink s)

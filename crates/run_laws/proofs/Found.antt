@@ -46,16 +46,16 @@ agrees_more P q k v (e ∷ es) new old =
         | Greater ↦ λ s. old
       ]) refl
       | Equal ↦ λ same. (elim (key_cmp q e.0) as (λ o. key_cmp q e.0 ≡ o → IfSome (cond (is_eq o) (Some e.1) (found es q)) (P q) →
-      IfSome (cond (is_eq o) (Some v) (found es q)) (P q)) [
-        | Less ↦ λ s h. h
-        | Equal ↦ λ s h. subst (λ (x : Key). P x v) (one_key k e.0 same ∙ sym (one_key q e.0 s)) new
-        | Greater ↦ λ s h. h
-      ]) refl old
+          IfSome (cond (is_eq o) (Some v) (found es q)) (P q)) [
+            | Less ↦ λ s h. h
+            | Equal ↦ λ s h. subst (λ (x : Key). P x v) (one_key k e.0 same ∙ sym (one_key q e.0 s)) new
+            | Greater ↦ λ s h. h
+          ]) refl old
       | Greater ↦ λ same. (elim (is_eq (key_cmp q e.0)) as (λ b. IfSome (cond b (Some e.1) (found es q)) (P q) →
-      IfSome (cond b (Some e.1) (found (insert_entry key_cmp es k v) q)) (P q)) [
-        | true ↦ λ h. h
-        | false ↦ λ h. agrees_more P q k v es new h
-      ]) old
+          IfSome (cond b (Some e.1) (found (insert_entry key_cmp es k v) q)) (P q)) [
+            | true ↦ λ h. h
+            | false ↦ λ h. agrees_more P q k v es new h
+          ]) old
     ]) refl
 
 -- what columns say alike is said of what is found
@@ -79,23 +79,24 @@ none_before q k v [] none = (elim (key_cmp q k) as (λ o. key_cmp q k ≡ o → 
 ]) refl none
 none_before q k v (e ∷ es) none =
     (elim (key_cmp k e.0) as (λ o. key_cmp k e.0 ≡ o →
-    lookup (is_at (key_cmp q)) (match_ordering o ((k, v) ∷ e ∷ es) ((e.0, v) ∷ es) (e ∷ insert_entry key_cmp es k v)) ≡ None → (found (e ∷ es) q ≡ None) × (k ≢ q)) [
+    lookup (is_at (key_cmp q)) (match_ordering o ((k, v) ∷ e ∷ es) ((e.0, v) ∷ es) (e ∷ insert_entry key_cmp es k v)) ≡ None →
+    (found (e ∷ es) q ≡ None) × (k ≢ q)) [
       | Less ↦ λ same. (elim (key_cmp q k) as (λ o. key_cmp q k ≡ o → cond (is_eq o) (Some v) (found (e ∷ es) q) ≡ None → (found (e ∷ es) q ≡ None) × (k ≢ q)) [
         | Less ↦ λ s h. (h, other_key k q Less s (λ x. absurd (omega (arith, x))))
         | Equal ↦ λ s h. let x = ap how_many h in absurd (omega (arith, x))
         | Greater ↦ λ s h. (h, other_key k q Greater s (λ x. absurd (omega (arith, x))))
       ]) refl
       | Equal ↦ λ same. (elim (key_cmp q e.0) as (λ o. key_cmp q e.0 ≡ o → cond (is_eq o) (Some v) (found es q) ≡ None →
-      (cond (is_eq o) (Some e.1) (found es q) ≡ None) × (k ≢ q)) [
-        | Less ↦ λ s h. (h, other_key k q Less (ap (λ (x : Key). key_cmp q x) (one_key k e.0 same) ∙ s) (λ x. absurd (omega (arith, x))))
-        | Equal ↦ λ s h. let x = ap how_many h in absurd (omega (arith, x))
-        | Greater ↦ λ s h. (h, other_key k q Greater (ap (λ (x : Key). key_cmp q x) (one_key k e.0 same) ∙ s) (λ x. absurd (omega (arith, x))))
-      ]) refl
+          (cond (is_eq o) (Some e.1) (found es q) ≡ None) × (k ≢ q)) [
+            | Less ↦ λ s h. (h, other_key k q Less (ap (λ (x : Key). key_cmp q x) (one_key k e.0 same) ∙ s) (λ x. absurd (omega (arith, x))))
+            | Equal ↦ λ s h. let x = ap how_many h in absurd (omega (arith, x))
+            | Greater ↦ λ s h. (h, other_key k q Greater (ap (λ (x : Key). key_cmp q x) (one_key k e.0 same) ∙ s) (λ x. absurd (omega (arith, x))))
+          ]) refl
       | Greater ↦ λ same. (elim (is_eq (key_cmp q e.0)) as (λ b. cond b (Some e.1) (found (insert_entry key_cmp es k v) q) ≡ None →
-      (cond b (Some e.1) (found es q) ≡ None) × (k ≢ q)) [
-        | true ↦ λ h. let x = ap how_many h in absurd (omega (arith, x))
-        | false ↦ λ h. none_before q k v es h
-      ])
+          (cond b (Some e.1) (found es q) ≡ None) × (k ≢ q)) [
+            | true ↦ λ h. let x = ap how_many h in absurd (omega (arith, x))
+            | false ↦ λ h. none_before q k v es h
+          ])
     ]) refl none
 
 -- where nothing is found under a key, none of the columns has it

@@ -7,12 +7,12 @@ use Rattle.std.proofs.lemmas.Bool.{cases_lt, eqb-true}
 use Rattle.std.proofs.lemmas.List.Folds.{Any-from_list_any}
 use Rattle.lg_model.specs.declared.column.Key.{Key}
 use Rattle.lg_model.specs.declared.scenario.Ask.{Ask}
-use Rattle.lg_model.specs.Scenario.{Scenario, ended}
+use Rattle.lg_model.specs.Scenario.{Scenario}
 use Rattle.lg_model.specs.Sketch.{frozen_cells}
-use Rattle.lg_model.specs.Carrying.{Carry, picked, IsAllowed}
+use Rattle.lg_model.specs.Carrying.{picked}
 use Rattle.lg_model.proofs.Allowing.{picked_is_allowed}
-use Rattle.lg_model.specs.Arriving.{column_of, brought_to_all}
-use Rattle.lg_model.specs.Columns.{Cells, Column, dims_of}
+use Rattle.lg_model.specs.Arriving.{brought_to_all}
+use Rattle.lg_model.specs.Columns.{Cells, Column}
 use Rattle.lg_model.specs.Answer.{found, look_in}
 use Rattle.lg_model.specs.Bound.{Agrees}
 use Rattle.lg_model.proofs.Answering.{true_answer}
