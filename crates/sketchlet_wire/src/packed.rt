@@ -1,5 +1,5 @@
 //! The spelling of a column in an array.
-ghost use Rattle.std.specs.Prelude.{◌≡◌, ◌≤◌, ℕ, Ok, Err};
+ghost use Rattle.std.specs.Prelude.{◌≡◌, ◌≤◌, ℕ, Ok, IfOk};
 ghost use Rattle.lg_model.specs.declared.limits.TheConstants.{MOST_SKETCHLET_BYTES};
 ghost use Rattle.lg_model.specs.Columns.{Column as ColumnOfModel};
 ghost use Rattle.sketchlet_wire.specs.Spelling.{spelling_len};
@@ -45,6 +45,9 @@ impl Packed {
         requires { self.now.len ≤ MOST_SKETCHLET_BYTES }
         // What packs a column is read as that column, to its last byte.
         ensures only { (c : ColumnOfModel) → IsPacked self.now c → result ≡ Ok (c, self.now.len) }
+        ensures inside { IfOk result (λ x. x.1 ≤ self.now.len) }
+        // Bytes that are read to their end pack what is read.
+        ensures whole { IfOk result (λ x. x.1 ≡ self.now.len → IsPacked self.now x.0) }
         // Which column or which fault it is.
         ensures exact { result ≡ column_reading (packed_bytes self.now) }
     {
