@@ -3,7 +3,7 @@ ghost use Rattle.std.specs.Prelude.{◌≡◌, ◌+◌, ◌<◌, ◌≤◌, ◌+
 ghost use Rattle.std.specs.Vec.{vec_capacity};
 ghost use Rattle.lg_model.specs.Answer.{Content};
 ghost use Rattle.column_book.specs.Entries.{records, content};
-ghost use Rattle.column_book.specs.Applying.{stored_entry, IsAddable, IsReady};
+ghost use Rattle.column_book.specs.Applying.{stored_entry, after, IsAddable, IsReady};
 ghost use Rattle.column_book.specs.Kept.{keys_of, HasRoom};
 
 use crate::adding::{make_all, put_new, sweep};
@@ -57,6 +57,7 @@ impl Book {
         requires fits { IsAddable self.old.shape self.old.room (records self.old.entries) upload.now }
         requires ready { IsReady self.old.ready (content self.old.entries) upload.now.columns }
         ensures added { self.new ≡ record self.old { entries = self.old.entries ++ stored_entry pass self.old.entries upload.now ∷ []; ready = [] } }
+        ensures applied { self.new.entries ≡ after self.old.shape self.old.room self.old.entries pass upload.now }
         ensures at { result ≡ length self.old.entries }
     {
         let at = self.rows.len() as u32;

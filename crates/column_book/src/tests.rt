@@ -1,9 +1,6 @@
-ghost use Rattle.std.specs.Prelude.{◌≡◌, IfSome};
-ghost use Rattle.lg_model.specs.declared.column.Dims.{Dims as GhostDims};
-
-use crate::{Book, BookFault, Column, Head, Key, ROOM, Shape};
+use crate::{Book, BookFault, Column, Head, Key, ROOM, Shape, Upload};
 use lg_model::{Bucket, Dims, Hash};
-use sketchlet_wire::Upload;
+use sketchlet_wire::holds;
 use std::alloc::Global;
 use std::test::Fail;
 
@@ -92,11 +89,33 @@ fn stores_refuses_and_knows(rt: HostRuntime) -> Result<(), Fail> {
     Ok(())
 }
 
+// Stores columns one by one in this order, and walks them in that of their keys.
+fn walk(rt: HostRuntime, width: u16, stored: &[Key], sorted: &[Key]) -> Result<(), Fail> {
+    let shape = Shape::new(2, width, Hash::Ports).ok_or("no shape")?;
+    let mut book = Book::new(rt.alloc(), &shape, 100)?;
+    for at in stored {
+        let one = column(*at, 2, width, 9).ok_or("no column")?;
+        put(&mut book, &upload(rt.alloc(), 0, &[one])?)?
+            .ok()
+            .ok_or("refused")?;
+    }
+    // A reserved block that holds nothing is passed over.
+    let none = column(key(1, 1, 0), 2, width, 1).ok_or("no column")?;
+    book.reserve(&upload(rt.alloc(), 9, &[none])?)?;
+    let mut at = book.next_key(None);
+    for want in sorted {
+        assert_eq!(rt; at, Some(*want));
+        at = book.next_key(at.as_ref());
+    }
+    assert_eq!(rt; at, None);
+    Ok(())
+}
+
 #[test]
 fn walks_in_order(rt: HostRuntime) -> Result<(), Fail> {
-    let shape = Shape::new(2, 40, Hash::Ports).ok_or("no shape")?;
-    let mut book = Book::new(rt.alloc(), &shape, 100)?;
-    let order = [
+    let two = [key(1, 0, 0), key(1, 0, 1)];
+    walk(rt, 2, &[two[1], two[0]], &two)?;
+    let seven = [
         key(1, 0, 0),
         key(1, 0, 1),
         key(1, 0, 15),
@@ -105,28 +124,10 @@ fn walks_in_order(rt: HostRuntime) -> Result<(), Fail> {
         key(1, 2, 3),
         key(4, 0, 17),
     ];
-    for n in [3usize, 6, 0, 5, 1, 4, 2] {
-        let it = upload(
-            rt.alloc(),
-            n as u32,
-            &[column(order[n], 2, 40, n as u32).ok_or("no column")?],
-        )?;
-        put(&mut book, &it)?.ok().ok_or("refused")?;
-    }
-    // A reserved block that holds nothing is passed over.
-    book.reserve(&upload(
-        rt.alloc(),
-        9,
-        &[column(key(1, 1, 0), 2, 40, 1).ok_or("no column")?],
-    )?)?;
-    let mut at = book.next_key(None);
-    for want in order {
-        assert_eq!(rt; at, Some(want));
-        at = book.next_key(at.as_ref());
-    }
-    assert_eq!(rt; at, None);
-    assert_eq!(rt; book.known(1, 0), 5);
-    Ok(())
+    let mixed = [
+        seven[3], seven[6], seven[0], seven[5], seven[1], seven[4], seven[2],
+    ];
+    walk(rt, 40, &mixed, &seven)
 }
 
 #[test]
@@ -153,5 +154,90 @@ fn fills_a_large_book(rt: HostRuntime) -> Result<(), Fail> {
         assert_eq!(rt; put(&mut book, &it)?, want, "upload {u}");
     }
     assert_eq!(rt; book.known(63, 0), 4096);
+    Ok(())
+}
+
+// What a plain list of kept columns says of an upload: the mask of the new ones, or the first fault.
+fn plain(kept: &[Column], room: u32, size: Dims, columns: &[Column]) -> Result<u16, BookFault> {
+    for came in columns {
+        if came.dims() != size {
+            return Err(BookFault::WrongShape {
+                kept: size,
+                came: came.dims(),
+            });
+        }
+    }
+    for came in columns {
+        for old in kept {
+            if old.key() == came.key() && old != came {
+                return Err(BookFault::Conflict {
+                    key: came.key(),
+                    kept: *old,
+                    came: *came,
+                });
+            }
+        }
+    }
+    let (mut mask, mut more, mut bit) = (0u16, 0u32, 1u16);
+    for came in columns {
+        if !holds(kept, &came.key()) {
+            mask |= bit;
+            more = more.wrapping_add(1);
+        }
+        bit = bit.wrapping_mul(2);
+    }
+    let held = kept.len() as u32;
+    if held.wrapping_add(more) > room {
+        return Err(BookFault::Full { held, more });
+    }
+    Ok(mask)
+}
+
+fn random(state: &mut u32) -> u32 {
+    *state = state.wrapping_mul(1_664_525).wrapping_add(1_013_904_223);
+    *state >> 16
+}
+
+// Up to 16 neighbouring columns of one of four sketches. One in a hundred has other counters or another size.
+fn draw(alloc: Global, state: &mut u32) -> Result<Vec<Column>, Fail> {
+    let mut columns = Vec::new(alloc);
+    let (switch, epoch) = ((random(state) % 2) as u16, random(state) % 2);
+    let first = random(state) % 40;
+    for n in 0..random(state) % 16 + 1 {
+        let at = key(switch, epoch, ((first + n) % 40) as u16);
+        let odd = random(state) % 100;
+        let rows = if odd == 0 { 3 } else { 2 };
+        let bytes = if odd == 1 { 7 } else { 5 };
+        columns.push(column(at, rows, 40, bytes).ok_or("no column")?)?;
+    }
+    Ok(columns)
+}
+
+#[test]
+fn agrees_with_a_plain_list(rt: HostRuntime) -> Result<(), Fail> {
+    let size = Dims { rows: 2, width: 40 };
+    let shape = Shape::new(2, 40, Hash::Ports).ok_or("no shape")?;
+    let mut book = Book::new(rt.alloc(), &shape, 130)?;
+    let mut kept: Vec<Column> = Vec::new(rt.alloc());
+    let mut state = 1;
+    let mut full = false;
+    for seq in 0..300u32 {
+        let columns = draw(rt.alloc(), &mut state)?;
+        let want = plain(&kept, 130, size, &columns);
+        assert_eq!(rt; put(&mut book, &upload(rt.alloc(), seq, &columns)?)?, want, "upload {seq}");
+        full = full || matches!(want, Err(BookFault::Full { .. }));
+        if want.is_ok() {
+            for came in &columns {
+                if !holds(&kept, &came.key()) {
+                    kept.push(*came)?;
+                }
+            }
+        }
+        assert_eq!(rt; book.count() as usize, kept.len(), "after upload {seq}");
+    }
+    assert_eq!(rt; full, true);
+    for one in &kept {
+        assert_eq!(rt; book.find(&one.key()), Some(*one));
+    }
     Ok(())
 }

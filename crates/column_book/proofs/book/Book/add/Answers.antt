@@ -1,4 +1,4 @@
-use Rattle.std.specs.Prelude.{◌≡◌, [], List, All, length, filter, true}
+use Rattle.std.specs.Prelude.{◌≡◌, ◌<◌, [], List, All, length, filter, true}
 use Rattle.std.specs.List.{list_any}
 use Rattle.std.specs.Vec.{vec_capacity}
 use Rattle.std.proofs.Common.{sym, ap, ◌∙◌, subst, arith}
@@ -7,8 +7,9 @@ use Rattle.sketchlet_wire.specs.Uploads.{same_column_key}
 use Rattle.column_book.specs.declared.head.Row.{Row}
 use Rattle.column_book.specs.Entries.{BookState, records, content}
 use Rattle.column_book.specs.declared.entry.Entry.{Entry}
-use Rattle.column_book.specs.Applying.{new_columns, IsAddable}
+use Rattle.column_book.specs.Applying.{new_columns, checked, IsAddable}
 use Rattle.column_book.specs.Kept.{IsGrown, is_free}
+use Rattle.column_book.proofs.Applying.{ok_and, law}
 use Rattle.column_book.proofs.Cuts.{few_rows}
 use Rattle.column_book.proofs.Stored.{IsStorable, blocks_made, keys_room, rows_room, kept_stored, entries_stored}
 use Rattle.column_book.proofs.book.Book.add.Goals as goal
@@ -95,3 +96,12 @@ returns-clause-added c =
     let count = c.put_new-count.ensures.count ∙ ap (λ (cs : List Column). length (filter (is_free es) cs)) c.columns.ensures.value in
     let entries = entries_stored b.shape b.room es b.keys.items b.rows.items b.ready.items (vec_capacity b.keys) (vec_capacity b.rows) u h es' keys' r grown first count c.put_new-count.ensures.few c.host.ensures c.seq.ensures in
     rw (c.push_reserved.ensures.items, c.clear.ensures.items, ← c.self.view_is) (ap (λ (es : List Entry). record { shape = b.shape; room = b.room; entries = es; ready = [] }) entries)
+
+-- what a check and an addition do is what an upload does
+pub returns-clause-applied : goal.returns-clause-applied
+returns-clause-applied c =
+    let b = c.args.self.now in
+    let u = c.args.upload.now in
+    let r = ok_and (checked b.shape b.room (records b.entries) u) (λ k. 0 < k) c.requires.fits in
+    let applied = (law b.shape b.room b.entries c.args.pass u).stored r.0 r.1.1 r.1.0 in
+    ap (λ (s : BookState). s.entries) (returns-clause-added c) ∙ sym applied.1
