@@ -1,11 +1,11 @@
 -- The content after an upload that is taken is the join of the content before and the upload's.
-use Rattle.std.specs.Prelude.{◌≡◌, ℕ, Bool, true, false, cond, List, [], ◌∷◌, ◌++◌, map, fold, Option, None, Some, IfSome, is_none, Ok}
+use Rattle.std.specs.Prelude.{◌≡◌, ℕ, Bool, true, false, cond, List, [], ◌∷◌, ◌++◌, fold, Option, None, Some, IfSome, is_none, Ok}
 use Rattle.std.specs.List.{AllByRecursion}
 use Rattle.std.specs.Option.{option_or}
-use Rattle.std.specs.Ordering.{nat_cmp, is_eq}
+use Rattle.std.specs.Ordering.{is_eq}
 use Rattle.std.specs.declared.cmp.Ordering.{Ordering}
 use Rattle.std.specs.declared.cmp.Ordering.TheVariants.{Less, Equal, Greater}
-use Rattle.std.specs.BTreeMap.{insert_entry, is_at}
+use Rattle.std.specs.BTreeMap.{is_at}
 use Rattle.std.specs.Cmp.{IsTotalOrder, then_total, on_total}
 use Rattle.std.proofs.Common.{refl, sym, ap, ◌∙◌, subst, append-nil}
 use Rattle.std.proofs.lemmas.Cmp.{nat_cmp_total}
@@ -16,13 +16,13 @@ use Rattle.lg_model.specs.declared.column.Key.{Key}
 use Rattle.lg_model.specs.Columns.{Cells, Column, dims_of}
 use Rattle.lg_model.specs.Answer.{key_cmp, Content, with_column, content_of, found}
 use Rattle.lg_model.specs.Joining.{AreJoinable, with_pair, join}
-use Rattle.lg_model.proofs.Maps.{InOrder, Above, in_order_after, found_after, none_below, same_found, one_map}
+use Rattle.lg_model.proofs.Maps.{InOrder, in_order_after, found_after, none_below, same_found, one_map}
 use Rattle.sketchlet_wire.specs.Uploads.{UploadData}
 use Rattle.column_book.specs.declared.entry.Entry.{Entry}
 use Rattle.column_book.specs.declared.fault.BookFault.{BookFault}
 use Rattle.column_book.specs.declared.fault.BookFault.TheVariants.{Conflict}
 use Rattle.column_book.specs.Entries.{records, columns_of, columns_in, content}
-use Rattle.column_book.specs.Applying.{is_new, new_columns, first_fault, conflict, differs, same_cells, column_with, entry_with, with_new, after_decision}
+use Rattle.column_book.specs.Applying.{new_columns, first_fault, conflict, differs, same_cells, column_with, entry_with, with_new, after_decision}
 use Rattle.column_book.specs.Outcomes.{LawOfContents}
 use Rattle.column_book.proofs.Keys.{one_key, is_at_key}
 use Rattle.column_book.proofs.Contents.{found-insert}
@@ -123,10 +123,10 @@ agree_all : (dims : Dims) (m : Content) (cs : List Column) → first_fault (conf
 agree_all dims m [] h = tt
 agree_all dims m (c ∷ cs) h = (
   λ v is. (elim (same_cells v c.cells) as (λ b. same_cells v c.cells ≡ b →
-  option_or (cond b None (Some (Conflict c.key (column_with c.key dims v) c))) (first_fault (conflict dims m) cs) ≡ None → v ≡ c.cells) [
-    | true ↦ λ same g. (same_cells-Decides v c.cells).0 same
-    | false ↦ λ same g. absurd (cc)
-  ]) refl (subst (λ (o : Option Cells). option_or (differs dims c o) (first_fault (conflict dims m) cs) ≡ None) is h),
+      option_or (cond b None (Some (Conflict c.key (column_with c.key dims v) c))) (first_fault (conflict dims m) cs) ≡ None → v ≡ c.cells) [
+        | true ↦ λ same g. (same_cells-Decides v c.cells).0 same
+        | false ↦ λ same g. absurd (cc)
+      ]) refl (subst (λ (o : Option Cells). option_or (differs dims c o) (first_fault (conflict dims m) cs) ≡ None) is h),
   agree_all dims m cs ((elim (conflict dims m c) as (λ (o : Option BookFault). option_or o (first_fault (conflict dims m) cs) ≡ None → first_fault (conflict dims m) cs ≡ None) [
     | None ↦ λ g. g
     | Some f ↦ λ g. absurd (cc)

@@ -1,8 +1,8 @@
 -- What follows from each answer to an upload.
-use Rattle.std.specs.Prelude.{◌≡◌, ◌≢◌, ℕ, suc, ◌+◌, ◌<◌, ◌≤◌, Bool, true, false, nat_lt, cond, List, [], ◌∷◌, length, take, Option, None, Some, IfSome, Ok, Err, slice_index_or, if◌then◌else◌}
+use Rattle.std.specs.Prelude.{◌≡◌, ◌≢◌, ℕ, suc, ◌+◌, ◌<◌, ◌≤◌, true, false, nat_lt, cond, List, [], ◌∷◌, length, take, Option, None, Some, IfSome, Ok, Err, slice_index_or, if◌then◌else◌}
 use Rattle.std.specs.List.{AllByRecursion}
 use Rattle.std.specs.Option.{option_or}
-use Rattle.std.proofs.Common.{refl, sym, ap, ◌∙◌, subst, arith, ltb-true, ltb-false}
+use Rattle.std.proofs.Common.{refl, sym, ◌∙◌, subst, arith, ltb-true, ltb-false}
 use Rattle.std.proofs.lemmas.List.Elements.{All-from_recursion}
 use Rattle.lg_model.specs.declared.column.Dims.{Dims}
 use Rattle.lg_model.specs.Placing.{Shape}
@@ -13,7 +13,7 @@ use Rattle.column_book.specs.declared.fault.BookFault.{BookFault}
 use Rattle.column_book.specs.declared.fault.BookFault.TheVariants.{WrongShape, Conflict, Full}
 use Rattle.column_book.specs.Entries.{columns_in, content_in}
 use Rattle.column_book.specs.Applying.{new_columns, same_dims, same_cells, misfit, differs, conflict, column_with, first_fault, full, or_fault}
-use Rattle.column_book.specs.Outcomes.{IsSized, IsSame, IsMisshapen, IsConflict, IsFitting, IsPastRoom, HasRoomFor, IsKnown, IsStored, Follows, LawOfOutcomes}
+use Rattle.column_book.specs.Outcomes.{IsSized, IsSame, IsMisshapen, IsConflict, IsFitting, IsPastRoom, HasRoomFor, Follows, LawOfOutcomes}
 use Rattle.column_book.proofs.Faults.{Faulty, same_dims-Decides, same_cells-Decides, all_fit}
 
 all_weaker : (P Q : Column → Type 0) → ((c : Column) → P c → Q c) → (cs : List Column) → AllByRecursion P cs → AllByRecursion Q cs

@@ -15,7 +15,7 @@ use Rattle.sketchlet_wire.specs.Uploads.{same_column_key}
 use Rattle.column_book.specs.declared.head.Row.{Row}
 use Rattle.column_book.specs.Blocks.{Made}
 use Rattle.column_book.specs.Entries.{content}
-use Rattle.column_book.specs.Kept.{shelf, column_under, entries_of, IsKept}
+use Rattle.column_book.specs.Kept.{shelf, entries_of, IsKept}
 use Rattle.column_book.proofs.Keys.{is_at_key, same_column_key-flip}
 use Rattle.column_book.proofs.Contents.{column_by, found-insert}
 use Rattle.column_book.proofs.Cuts.{columns_kept}

@@ -1,5 +1,5 @@
 -- A book after an upload was stored.
-use Rattle.std.specs.Prelude.{◌≡◌, ℕ, zero, suc, ◌+◌, ◌*◌, ◌<◌, ◌≤◌, Bool, true, false, cond, ◌||◌, List, [], ◌∷◌, ◌++◌, All, map, filter, take, drop, length, Option, None, Some, is_some, is_none, Result, Ok, IsOkAnd, slice_index_or, if◌then◌else◌, nat_lt}
+use Rattle.std.specs.Prelude.{◌≡◌, ℕ, zero, suc, ◌+◌, ◌<◌, ◌≤◌, Bool, true, false, cond, ◌||◌, List, [], ◌∷◌, ◌++◌, All, map, filter, take, drop, length, Option, None, Some, is_some, is_none, slice_index_or, if◌then◌else◌, nat_lt}
 use Rattle.std.specs.List.{AllByRecursion, list_any, IsDistinct}
 use Rattle.std.specs.Option.{option_map, unwrap_or}
 use Rattle.std.proofs.Common.{refl, sym, ap, ◌∙◌, subst, arith, ltb-false}
@@ -16,7 +16,6 @@ use Rattle.lg_model.specs.Answer.{Content, found}
 use Rattle.sketchlet_wire.specs.Spelling.{IsColumn, filled, zeros, cells_in}
 use Rattle.lg_model.specs.Columns.{Column, dims_of, cells_of}
 use Rattle.sketchlet_wire.specs.Uploads.{UploadData, upload_of, IsFull, same_column_key, is_twice, no_column}
-use Rattle.column_book.specs.declared.fault.BookFault.{BookFault}
 use Rattle.column_book.specs.declared.fault.BookFault.TheVariants.{Full}
 use Rattle.column_book.specs.declared.head.Row.{Row}
 use Rattle.column_book.specs.Blocks.{Made, kept_at, spot, IsMade}

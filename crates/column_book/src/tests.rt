@@ -231,7 +231,11 @@ fn agrees_with_a_plain_list(rt: HostRuntime) -> Result<(), Fail> {
     for seq in 0..300u32 {
         let columns = draw(rt.alloc(), &mut state)?;
         let want = plain(&kept, 130, size, &columns);
-        assert_eq!(rt; put(&mut book, &upload(rt.alloc(), seq, &columns)?)?, want, "upload {seq}");
+        assert_eq!(rt;
+            put(&mut book, &upload(rt.alloc(), seq, &columns)?)?,
+            want,
+            "upload {seq}"
+        );
         full = full || matches!(want, Err(BookFault::Full { .. }));
         if want.is_ok() {
             for came in &columns {

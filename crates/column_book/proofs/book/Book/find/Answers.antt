@@ -1,4 +1,4 @@
-use Rattle.std.specs.Prelude.{◌≡◌, List, Some, take, ◌<◌}
+use Rattle.std.specs.Prelude.{◌≡◌, Some, ◌<◌}
 use Rattle.std.specs.Option.{option_map}
 use Rattle.std.proofs.Common.{sym, ap, ◌∙◌, subst}
 use Rattle.lg_model.specs.declared.column.Dims.{Dims}
