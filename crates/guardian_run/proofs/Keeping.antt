@@ -19,7 +19,7 @@ use Rattle.sketchlet_wire.specs.declared.packed.Packed.{Packed}
 use Rattle.sketchlet_wire.specs.Packing.{IsPacked}
 use Rattle.sketchlet_wire.specs.Spelling.{ColumnData, spelling}
 use Rattle.sketchlet_wire.specs.Carried.{column_data, dims_of}
-use Rattle.report_text.specs.Lines.{hex_line}
+use Rattle.report_text.specs.Capture.{hex_line}
 use Rattle.guardian_run.specs.Outputs.{host_lines}
 
 -- for a place that no column has

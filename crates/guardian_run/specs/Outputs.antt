@@ -7,10 +7,10 @@ use Rattle.lg_model.specs.Carrying.{picked}
 use Rattle.lg_model.specs.Arriving.{brought, brought_to_all}
 use Rattle.lg_model.specs.Columns.{Column}
 use Rattle.lg_model.specs.Answer.{Content, content_of}
-use Rattle.lg_model.specs.Report.{report}
 use Rattle.sketchlet_wire.specs.Spelling.{spelling}
 use Rattle.sketchlet_wire.specs.Carried.{column_data, dims_of}
-use Rattle.report_text.specs.Lines.{hex_line, sketchlets_line}
+use Rattle.report_text.specs.Report.{report}
+use Rattle.report_text.specs.Capture.{hex_line, sketchlets_line}
 use Rattle.guardian_words.specs.declared.asked.Command.{Command}
 use Rattle.guardian_words.specs.declared.asked.Command.TheVariants.{Run, Capture}
 

@@ -1,30 +1,15 @@
 -- What the program answers and writes.
-use Rattle.std.specs.Prelude.{◌≡◌, ℕ, List, ◌++◌, ◌⊎◌, codes, Result, Ok, Err, Option, Some, None}
-use Rattle.std.specs.Fmt.{decimal}
+use Rattle.std.specs.Prelude.{◌≡◌, ℕ, List, ◌⊎◌, Result, Ok, Err, Option, Some, None}
 use Rattle.std.specs.Io.KnownBytes.{Appends}
 use Rattle.lg_base.specs.Causes.{Rose, AppendsFront}
 use Rattle.lg_model.specs.Scenario.{Scenario}
-use Rattle.lg_model.specs.Report.{line}
-use Rattle.scenario_lines.specs.Whys.{why_text}
 use Rattle.scenario_text.specs.Text.{Fault}
+use Rattle.report_text.specs.Faults.{usage_line, read_fault_line, no_memory_line, scenario_line}
 use Rattle.guardian_words.specs.declared.asked.Command.{Command}
 use Rattle.guardian_words.specs.declared.asked.Command.TheVariants.{Run, Capture}
 use Rattle.guardian_run.specs.declared.status.Status.{Status}
 use Rattle.guardian_run.specs.declared.status.Status.TheVariants as status
 use Rattle.guardian_run.specs.Outputs.{output_of}
-
-abbrev pub usage_line : List ℕ
-usage_line = line (codes "guardian: usage: guardian run, ask, list, rebuild S E, capture, make N, demo N")
-
-abbrev pub read_fault_line : List ℕ
-read_fault_line = line (codes "guardian: read fault")
-
-abbrev pub no_memory_line : List ℕ
-no_memory_line = line (codes "guardian: no memory")
-
--- `guardian: scenario line L: WHY`
-unfoldable pub scenario_line : Fault → List ℕ
-scenario_line (n, why) = line (codes "guardian: scenario line " ++ decimal n ++ codes ": " ++ why_text why)
 
 -- A fault line was written, or a front of it where the sink failed.
 abbrev pub WritesLine : (old new : Option (List ℕ)) (faults faults' : ℕ) → List ℕ → Type 0

@@ -9,9 +9,8 @@ use Rattle.lg_model.specs.Sketch.{frozen_cells}
 use Rattle.lg_model.specs.Carrying.{picked, IsAllowed}
 use Rattle.lg_model.specs.Arriving.{brought_to_all}
 use Rattle.lg_model.specs.Columns.{Column}
-use Rattle.lg_model.specs.Answer.{look_in}
+use Rattle.lg_model.specs.Answer.{look_in, answered}
 use Rattle.lg_model.specs.Bound.{IsTrueAnswer}
-use Rattle.lg_model.specs.Report.{answered}
 use Rattle.flow_query.specs.Told.{IsExact}
 use Rattle.guardian_run.specs.Outputs.{book_of}
 

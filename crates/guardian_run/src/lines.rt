@@ -1,7 +1,8 @@
 //! Fault lines (docs/FORMATS.md, Fault lines and exit statuses).
 ghost use Rattle.std.specs.Prelude.{◌≡◌, ◌≤◌, IfOk};
 ghost use Rattle.lg_base.specs.Causes.{Rose};
-ghost use Rattle.guardian_run.specs.Top.{scenario_line, WritesLine};
+ghost use Rattle.report_text.specs.Faults.{scenario_line};
+ghost use Rattle.guardian_run.specs.Top.{WritesLine};
 
 use crate::status::Status;
 use lg_base::{Memory, Sink, put_all};
@@ -10,7 +11,7 @@ use scenario_text::Why;
 use std::alloc::Global;
 
 /// The line of a scenario text that is refused. Memory where there is none for it.
-#[tactic(auto, unfolding(crate::specs::Top::scenario_line))]
+#[tactic(auto, unfolding(report_text::specs::Faults::scenario_line))]
 pub fn scenario_fault(alloc: Global, line: u32, why: Why) -> Result<Vec<u8>, Memory>
     ensures { IfOk result (λ text. text.items ≡ scenario_line (line, why)) }
 {

@@ -6,7 +6,7 @@ ghost use Rattle.lg_model.specs.Carrying.{picked};
 ghost use Rattle.lg_model.specs.Arriving.{brought};
 ghost use Rattle.lg_model.specs.Columns.{Column as Brought};
 ghost use Rattle.lg_model.specs.Answer.{with_column};
-ghost use Rattle.lg_model.specs.Report.{report as report_of};
+ghost use Rattle.report_text.specs.Report.{report as report_of};
 ghost use Rattle.sketchlet_wire.specs.Spelling.{ColumnData};
 ghost use Rattle.sketchlet_wire.specs.Packing.{IsPacked};
 ghost use Rattle.path_sim.specs.Arrived.{HaveArrived};

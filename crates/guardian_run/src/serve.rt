@@ -4,7 +4,8 @@ ghost use Rattle.lg_base.specs.Causes.{Rose};
 ghost use Rattle.scenario_text.specs.Text.{reading, IsTaken};
 ghost use Rattle.guardian_run.specs.Outputs.{output_of};
 ghost use Rattle.guardian_run.specs.Truth.{IsTrueRun};
-ghost use Rattle.guardian_run.specs.Top.{Writes, WritesLine, WritesRefusal, IsComplete, IsRead, no_memory_line};
+ghost use Rattle.report_text.specs.Faults.{no_memory_line};
+ghost use Rattle.guardian_run.specs.Top.{Writes, WritesLine, WritesRefusal, IsComplete, IsRead};
 
 use crate::capture::capture;
 use crate::laws::runs_are_true;

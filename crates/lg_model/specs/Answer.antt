@@ -8,12 +8,14 @@ use Rattle.std.specs.Map.{lookup}
 use Rattle.std.specs.Option.{option_map}
 use Rattle.flow_key.specs.declared.key.FlowKey.{FlowKey}
 use Rattle.lg_model.specs.declared.answer.Answer.{Answer}
+use Rattle.lg_model.specs.declared.scenario.Ask.{Ask}
 use Rattle.lg_model.specs.declared.answer.Value.{Value}
 use Rattle.lg_model.specs.declared.answer.Value.TheVariants.{Unknown, AtMost, Saturated}
 use Rattle.lg_model.specs.declared.column.Bucket.{Bucket}
 use Rattle.lg_model.specs.declared.column.Key.{Key}
 use Rattle.lg_model.specs.declared.limits.TheConstants.{LAST_BYTES, LAST_DELAY}
 use Rattle.lg_model.specs.Placing.{Shape, place}
+use Rattle.lg_model.specs.Scenario.{Scenario, flow_at}
 use Rattle.lg_model.specs.Sketch.{bucket_in}
 use Rattle.lg_model.specs.Columns.{Cells, Column}
 
@@ -60,3 +62,7 @@ value_of limit (x ∷ xs) = if fold min x xs == limit then Saturated else AtMost
 abbrev pub answer : Look → Shape → ℕ → ℕ → FlowKey → Answer
 answer look shape s e f = let rows = known look shape s e f in
     record { rows_known = length rows; bytes = value_of LAST_BYTES (map (λ (b : Bucket). b.bytes) rows); delay = value_of LAST_DELAY (map (λ (b : Bucket). b.delay) rows) }
+
+-- The answer of a content to an ask.
+abbrev pub answered : Content → Scenario → Ask → Answer
+answered content w ask = answer (look_in content) w.shape ask.switch ask.epoch (flow_at w.flows ask.flow_at).key

@@ -15,8 +15,7 @@ use Rattle.lg_model.specs.Arriving.{brought_to_all, arrivals}
 use Rattle.lg_model.specs.declared.answer.Answer.{Answer}
 use Rattle.lg_model.specs.declared.answer.Value.{Value}
 use Rattle.lg_model.specs.declared.answer.Value.TheVariants.{Unknown, AtMost, Saturated}
-use Rattle.lg_model.specs.Answer.{content_of}
-use Rattle.lg_model.specs.Report.{answered}
+use Rattle.lg_model.specs.Answer.{content_of, answered}
 use Rattle.lg_model.specs.declared.scenario.Pick.TheVariants as picks
 
 -- What is told of a scenario: the number of columns, and an answer for each ask.

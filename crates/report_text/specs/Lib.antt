@@ -1,1 +1,3 @@
-pub mod Lines
+pub mod Report
+pub mod Capture
+pub mod Faults

@@ -1,14 +1,15 @@
 //! The lines of a report.
 ghost use Rattle.std.specs.Prelude.{◌≡◌, ◌++◌, codes, IfOk};
-ghost use Rattle.lg_model.specs.Report.{value_text, answer_line as line_of, columns_line};
-ghost use Rattle.report_text.specs.Lines.{field, AppendsText};
+ghost use Rattle.text_out.specs.Appending.{AppendsText};
+ghost use Rattle.text_out.specs.Words.{field};
+ghost use Rattle.report_text.specs.Report.{value_text, answer_line as line_of, columns_line};
 
-use crate::pieces::{put_field, put_number, put_text};
 use lg_base::Memory;
 use lg_model::{Answer, Value};
 use std::alloc::Global;
+use text_out::{put_field, put_number, put_text};
 
-// A number, `unknown` or `saturated`, behind a word.
+// A number, `unknown` or `saturated`, after a word.
 fn put_value(out: &mut Vec<u8>, word: &[u8], value: Value) -> Result<(), Memory>
     ensures { AppendsText result out.old.items out.new.items (word.now ++ value_text value) }
 {
@@ -22,7 +23,8 @@ fn put_value(out: &mut Vec<u8>, word: &[u8], value: Value) -> Result<(), Memory>
 
 // The question: `flow F switch S epoch E`.
 fn put_question(out: &mut Vec<u8>, flow: u16, switch: u16, epoch: u32) -> Result<(), Memory>
-    ensures { AppendsText result out.old.items out.new.items (field (codes "flow ") flow ++ field (codes " switch ") switch ++ field (codes " epoch ") epoch) }
+    ensures { AppendsText result out.old.items out.new.items (field (codes "flow ") flow
+        ++ field (codes " switch ") switch ++ field (codes " epoch ") epoch) }
 {
     put_field(out, b"flow ", u64::from(flow))?;
     put_field(out, b" switch ", u64::from(switch))?;
@@ -30,8 +32,8 @@ fn put_question(out: &mut Vec<u8>, flow: u16, switch: u16, epoch: u32) -> Result
     Ok(())
 }
 
-// What is told: ` rows K of R bytes B delay D`.
-fn put_told(out: &mut Vec<u8>, rows: u8, answer: &Answer) -> Result<(), Memory>
+// The answer: ` rows K of R bytes B delay D`.
+fn put_answer(out: &mut Vec<u8>, rows: u8, answer: &Answer) -> Result<(), Memory>
     ensures { AppendsText result out.old.items out.new.items (field (codes " rows ") answer.now.rows_known ++ field (codes " of ") rows
         ++ (codes " bytes " ++ value_text answer.now.bytes) ++ codes " delay " ++ value_text answer.now.delay) }
 {
@@ -44,8 +46,8 @@ fn put_told(out: &mut Vec<u8>, rows: u8, answer: &Answer) -> Result<(), Memory>
 
 /// Appends `flow F switch S epoch E rows K of R bytes B delay D` and the byte 10: the flow, the switch and the epoch of the
 /// question, then the answer, with `rows` the rows of the shape. At `Memory` what stood before is kept, and a part of the
-/// line may stand behind it (docs/FORMATS.md, Output lines).
-#[tactic(auto, using(crate::proofs::Keeping::keeps_itself, crate::proofs::Keeping::keeps_after), unfolding(lg_model::specs::Report::answer_line))]
+/// line may stand after it (docs/FORMATS.md, Output lines).
+#[tactic(auto, using(text_out::proofs::Keeping::keeps_itself, text_out::proofs::Keeping::keeps_after), unfolding(crate::specs::Report::answer_line))]
 pub fn put_answer_line(
     out: &mut Vec<u8>,
     flow: u16,
@@ -57,12 +59,12 @@ pub fn put_answer_line(
     ensures { AppendsText result out.old.items out.new.items (line_of flow switch epoch rows answer.now) }
 {
     put_question(out, flow, switch, epoch)?;
-    put_told(out, rows, answer)?;
+    put_answer(out, rows, answer)?;
     put_text(out, b"\n")?;
     Ok(())
 }
 
-/// The line that [`put_answer_line`] appends, alone. `Memory` comes only for want of memory.
+/// The line that [`put_answer_line`] appends, alone. `Memory` comes only where memory runs out.
 pub fn answer_line(
     alloc: Global,
     flow: u16,
@@ -78,8 +80,8 @@ pub fn answer_line(
     Ok(line)
 }
 
-/// Appends `columns N` and the byte 10. At `Memory` what stood before is kept, and a part of the line may stand behind it.
-#[tactic(auto, using(crate::proofs::Keeping::keeps_itself, crate::proofs::Keeping::keeps_after), unfolding(lg_model::specs::Report::columns_line))]
+/// Appends `columns N` and the byte 10. At `Memory` what stood before is kept, and a part of the line may stand after it.
+#[tactic(auto, using(text_out::proofs::Keeping::keeps_itself, text_out::proofs::Keeping::keeps_after), unfolding(crate::specs::Report::columns_line))]
 pub fn put_columns_line(out: &mut Vec<u8>, count: usize) -> Result<(), Memory>
     ensures { AppendsText result out.old.items out.new.items (columns_line count) }
 {

@@ -1,21 +1,25 @@
-//! The lines of a report and of a capture (docs/FORMATS.md, Output lines).
+//! Every line that the program writes: the lines of a report and of a capture, and fault lines (docs/FORMATS.md, Output
+//! lines; Fault lines and exit statuses).
 //!
 //! | Item | What it is |
 //! |---|---|
 //! | [`answer_line`], [`put_answer_line`] | the line of an answer |
 //! | [`put_columns_line`], [`put_sketchlets_line`] | the last line of a report, and of a capture |
 //! | [`hex_line`], [`put_hex_line`] | the line of a sketchlet |
+//! | [`scenario_line`], [`put_scenario_line`] | the line of a scenario text that is refused |
+//! | [`usage_line`], [`read_fault_line`], [`no_memory_line`] | the fault lines that never change |
 //! | [`put_text`], [`put_number`] | what other lines are written with |
 //!
 //! A `put` appends to the bytes of a list. Every line ends with the byte 10.
-#![tactic(auto, using(crate::proofs::Keeping::keeps_itself, crate::proofs::Keeping::keeps_after))]
+#![tactic(auto, using(text_out::proofs::Keeping::keeps_itself, text_out::proofs::Keeping::keeps_after))]
 
 mod answers;
 mod captures;
-mod pieces;
+mod faults;
 #[cfg(test)]
 mod tests;
 
 pub use answers::{answer_line, put_answer_line, put_columns_line};
 pub use captures::{hex_line, put_hex_line, put_sketchlets_line};
-pub use pieces::{put_number, put_text};
+pub use faults::{no_memory_line, put_scenario_line, read_fault_line, scenario_line, usage_line};
+pub use text_out::{put_number, put_text};

@@ -1,8 +1,9 @@
 use crate::{
-    answer_line, hex_line, put_answer_line, put_columns_line, put_hex_line, put_number,
-    put_sketchlets_line, put_text,
+    answer_line, hex_line, no_memory_line, put_answer_line, put_columns_line, put_hex_line,
+    put_scenario_line, put_sketchlets_line, read_fault_line, scenario_line, usage_line,
 };
 use lg_model::{Answer, Value};
+use scenario_lines::Why;
 use sketchlet_wire::Packed;
 use std::test::Fail;
 
@@ -84,15 +85,26 @@ fn a_capture_of_one_sketchlet(rt: HostRuntime) -> Result<(), Fail> {
 }
 
 #[test]
-fn text_and_numbers(rt: HostRuntime) -> Result<(), Fail> {
+fn fault_lines(rt: HostRuntime) -> Result<(), Fail> {
+    for (line, want) in [
+        (
+            usage_line(),
+            b"guardian: usage: guardian run, ask, list, rebuild S E, capture, make N, demo N\n".as_slice(),
+        ),
+        (read_fault_line(), b"guardian: read fault\n".as_slice()),
+        (no_memory_line(), b"guardian: no memory\n".as_slice()),
+    ] {
+        assert_eq!(rt; line, want);
+    }
+    let want = b"guardian: scenario line 16777217: too long\n".as_slice();
+    let line = scenario_line(rt.alloc(), 16777217, Why::TooLong)?;
+    assert_eq!(rt; line.as_slice(), want);
+
     let mut out = Vec::new(rt.alloc());
-    put_text(&mut out, b"damaged at ")?;
-    put_number(&mut out, 18446744073709551615)?;
-    put_text(&mut out, b" ")?;
-    put_number(&mut out, 0)?;
+    put_scenario_line(&mut out, 1, Why::NoDone)?;
     assert_eq!(rt;
         out.as_slice(),
-        b"damaged at 18446744073709551615 0".as_slice()
+        b"guardian: scenario line 1: no done\n".as_slice()
     );
     Ok(())
 }

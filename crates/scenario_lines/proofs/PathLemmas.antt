@@ -4,7 +4,7 @@ use Rattle.scenario_lines.specs.declared.why.Why.{Why}
 use Rattle.scenario_lines.specs.declared.fault.LineFault.{LineFault}
 use Rattle.scenario_lines.specs.declared.fault.LineFault.TheVariants as faults
 use Rattle.scenario_lines.specs.Fields.{Fails, number, hop, path, delays}
-use Rattle.scenario_lines.specs.Spelling.{Words}
+use Rattle.text_out.specs.Words.{Words}
 
 pub path_more : (switches sofar w : List ℕ) (ws words : List (List ℕ)) (at : ℕ) (total : Result (List ℕ) Why) → words ≡ w ∷ ws → hop switches sofar w ≡ Ok at → path switches sofar words ≡ total → path switches (sofar ++ at ∷ []) ws ≡ total
 unfolding path

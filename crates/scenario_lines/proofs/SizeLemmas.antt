@@ -3,7 +3,8 @@ use Rattle.std.proofs.Common.{◌≡◌, ℕ, ◌+◌, List, [], ◌∷◌, ◌+
 use Rattle.std.specs.Prelude.{slice_index}
 use Rattle.std.specs.Fmt.{decimal}
 use Rattle.std.proofs.lemmas.List.{map-append}
-use Rattle.scenario_lines.specs.Spelling.{Words, size, path_words}
+use Rattle.text_out.specs.Words.{Words}
+use Rattle.scenario_lines.specs.Spelling.{size, path_words}
 
 pub size_append : (ws vs : Words) → size (ws ++ vs) ≡ size ws + size vs
 size_append [] vs = omega arith

@@ -22,7 +22,8 @@ use Rattle.scenario_lines.specs.declared.section.Section.TheVariants.{First, Sec
 use Rattle.scenario_lines.specs.declared.section.Keyword.{Keyword}
 use Rattle.scenario_lines.specs.declared.section.Keyword.TheVariants as words
 use Rattle.scenario_lines.specs.Sections.{has_place, is_first}
-use Rattle.scenario_lines.specs.Spelling.{Words, size, shape_words, pick_line_words, key_parts, host_words, host_names, switch_words, path_words, flow_words, byte_of, step_words, ask_words}
+use Rattle.text_out.specs.Words.{Words}
+use Rattle.scenario_lines.specs.Spelling.{size, shape_line_words, pick_line_words, key_parts, host_words, host_names, switch_words, path_words, flow_words, byte_of, step_words, ask_words}
 use Rattle.scenario_lines.specs.Line.{linked, linked_at, no_letters, unlinked}
 use Rattle.scenario_lines.specs.Draft.{State, IsDraft}
 use Rattle.scenario_lines.specs.Weight.{frame_size, link_size, weight, keyword_size, first_size}
@@ -125,11 +126,11 @@ frame_second Declarations shape pick is = absurd cc
 frame_second Steps shape pick is = absurd cc
 frame_second Done shape pick is = absurd cc
 
-pub shape_weighs : (s : State) (shape : Shape) → has_place s.section words.Shape ≡ true → weight (record s { section = Third; shape = shape }) ≡ weight s + size (shape_words shape)
+pub shape_weighs : (s : State) (shape : Shape) → has_place s.section words.Shape ≡ true → weight (record s { section = Third; shape = shape }) ≡ weight s + size (shape_line_words shape)
 unfolding weight
 shape_weighs s shape is = omega (arith, frame_second s.section s.shape s.pick is)
 
-frame_third : (x : Section) (shape : Shape) (pick : Pick) → has_place x words.Pick ≡ true → frame_size x shape pick ≡ 11 + size (shape_words shape)
+frame_third : (x : Section) (shape : Shape) (pick : Pick) → has_place x words.Pick ≡ true → frame_size x shape pick ≡ 11 + size (shape_line_words shape)
 frame_third First shape pick is = absurd cc
 frame_third Second shape pick is = absurd cc
 frame_third Third shape pick is = refl

@@ -13,7 +13,7 @@ use Rattle.scenario_lines.specs.declared.section.Keyword.{Keyword}
 use Rattle.scenario_lines.specs.declared.section.Keyword.TheVariants as words
 use Rattle.scenario_lines.specs.Sections.{is_first, keyword_of, has_place}
 use Rattle.scenario_lines.specs.Counts.{names_of, path_at, ends_of}
-use Rattle.scenario_lines.specs.Spelling.{Words}
+use Rattle.text_out.specs.Words.{Words}
 use Rattle.scenario_lines.specs.Draft.{State}
 use Rattle.scenario_lines.specs.Fields.{◌>>=◌, number, word, ended, fresh, known, place, fresh_host, host_place, fresh_flow, room, room_to, room_for_all, key, path, hash, pick, letters_word, delays, burst, fate}
 

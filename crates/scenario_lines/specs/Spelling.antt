@@ -3,8 +3,6 @@ use Rattle.std.specs.Prelude.{ℕ, ◌+◌, List, [], ◌∷◌, ◌++◌, lengt
 use Rattle.std.specs.Fmt.{decimal}
 use Rattle.flow_key.specs.declared.key.FlowKey.{FlowKey}
 use Rattle.flow_key.specs.KeyText.{dotted}
-use Rattle.lg_model.specs.declared.scenario.Hash.{Hash}
-use Rattle.lg_model.specs.declared.scenario.Hash.TheVariants as hashes
 use Rattle.lg_model.specs.declared.scenario.Pick.{Pick}
 use Rattle.lg_model.specs.declared.scenario.Pick.TheVariants as picks
 use Rattle.lg_model.specs.declared.scenario.Letter.{Letter}
@@ -17,27 +15,15 @@ use Rattle.lg_model.specs.declared.scenario.Step.{Step}
 use Rattle.lg_model.specs.declared.scenario.Step.TheVariants as steps
 use Rattle.lg_model.specs.declared.scenario.Ask.{Ask}
 use Rattle.lg_model.specs.Placing.{Shape}
+use Rattle.text_out.specs.Words.{Words, joined}
+use Rattle.text_out.specs.Shapes.{shape_words}
 use Rattle.scenario_lines.specs.Counts.{names_of}
-
--- The words of a line.
-abbrev pub Words : Type 0
-Words = List (List ℕ)
-
--- The text of words, each behind a space.
-abbrev pub spaced : Words → List ℕ
-spaced [] = []
-spaced (w ∷ ws) = 32 ∷ (w ++ spaced ws)
-
--- The text of words, with one space between each two.
-abbrev pub joined : Words → List ℕ
-joined [] = []
-joined (w ∷ ws) = w ++ spaced ws
 
 -- The text of a line of these words, with its 0A.
 abbrev pub line_text : Words → List ℕ
 line_text ws = joined ws ++ 10 ∷ []
 
--- The bytes of words with one byte behind each.
+-- The bytes of words with one byte after each.
 abbrev pub size : Words → ℕ
 size [] = 0
 size (w ∷ ws) = (length w + 1) + size ws
@@ -45,11 +31,6 @@ size (w ∷ ws) = (length w + 1) + size ws
 -- The five words of a key, before these words.
 abbrev pub key_parts : FlowKey → Words → Words
 key_parts k ws = dotted k.src ∷ dotted k.dst ∷ decimal k.proto ∷ decimal k.sport ∷ decimal k.dport ∷ ws
-
--- The words of a hash.
-abbrev pub hash_words : Hash → Words
-hash_words hashes.Ports = codes "ports" ∷ []
-hash_words (hashes.Seed n) = codes "seed" ∷ decimal n ∷ []
 
 -- The words of a pick.
 abbrev pub pick_words : Pick → Words
@@ -74,8 +55,8 @@ abbrev pub guardian_words : Words
 guardian_words = codes "guardian" ∷ codes "1" ∷ []
 
 -- The words of the line of a shape.
-abbrev pub shape_words : Shape → Words
-shape_words s = codes "shape" ∷ decimal s.rows ∷ decimal s.width ∷ hash_words s.hash
+abbrev pub shape_line_words : Shape → Words
+shape_line_words s = codes "shape" ∷ shape_words s
 
 -- The words of the line of a pick.
 abbrev pub pick_line_words : Pick → Words

@@ -10,17 +10,17 @@ use Rattle.scenario_lines.specs.declared.section.Section.{Section}
 use Rattle.scenario_lines.specs.declared.section.Section.TheVariants.{First, Second, Third, Declarations, Steps, Done}
 use Rattle.scenario_lines.specs.declared.section.Keyword.{Keyword}
 use Rattle.scenario_lines.specs.declared.section.Keyword.TheVariants as words
-use Rattle.scenario_lines.specs.Spelling.{size, guardian_words, shape_words, pick_line_words, host_words, switch_words, flow_words, link_words, step_words, ask_words, done_words}
+use Rattle.scenario_lines.specs.Spelling.{size, guardian_words, shape_line_words, pick_line_words, host_words, switch_words, flow_words, link_words, step_words, ask_words, done_words}
 use Rattle.scenario_lines.specs.Draft.{State}
 
 -- The bytes of the three first lines, as far as they have come, and of the last line.
 abbrev pub frame_size : Section → Shape → Pick → ℕ
 frame_size First shape pick = 0
 frame_size Second shape pick = size guardian_words
-frame_size Third shape pick = size guardian_words + size (shape_words shape)
-frame_size Declarations shape pick = (size guardian_words + size (shape_words shape)) + size (pick_line_words pick)
-frame_size Steps shape pick = (size guardian_words + size (shape_words shape)) + size (pick_line_words pick)
-frame_size Done shape pick = ((size guardian_words + size (shape_words shape)) + size (pick_line_words pick)) + size done_words
+frame_size Third shape pick = size guardian_words + size (shape_line_words shape)
+frame_size Declarations shape pick = (size guardian_words + size (shape_line_words shape)) + size (pick_line_words pick)
+frame_size Steps shape pick = (size guardian_words + size (shape_line_words shape)) + size (pick_line_words pick)
+frame_size Done shape pick = ((size guardian_words + size (shape_line_words shape)) + size (pick_line_words pick)) + size done_words
 
 -- The bytes of the line of a host's letters; none where it has no letters.
 abbrev pub link_size : HostLine → ℕ

@@ -3,7 +3,8 @@ ghost use Rattle.std.specs.Prelude.{◌≡◌, ◌≤◌, ◌<◌, ◌+◌, ◌�
 ghost use Rattle.std.specs.Fmt.{decimal};
 ghost use Rattle.std.specs.Option.{option_copied};
 ghost use Rattle.flow_key.specs.Words.{words_left};
-ghost use Rattle.scenario_lines.specs.Spelling.{size, hash_words, pick_words};
+ghost use Rattle.text_out.specs.Shapes.{hash_words};
+ghost use Rattle.scenario_lines.specs.Spelling.{size, pick_words};
 ghost use Rattle.scenario_lines.specs.Readable.{IsHash, IsPick};
 ghost use Rattle.scenario_lines.specs.Fields.{Gives, number, word, ended, room, room_to, hash, pick};
 

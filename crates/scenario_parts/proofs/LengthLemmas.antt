@@ -13,7 +13,8 @@ use Rattle.lg_model.specs.declared.scenario.Step.{Step}
 use Rattle.lg_model.specs.declared.scenario.Step.TheVariants as steps
 use Rattle.lg_model.specs.Scenario.{Scenario}
 use Rattle.scenario_lines.specs.declared.section.Section.TheVariants.{Done}
-use Rattle.scenario_lines.specs.Spelling.{Words, spaced, line_text, size, burst_words, fate_words, guardian_words, shape_words, pick_line_words, host_words, switch_words, flow_words, link_words, step_words, ask_words, done_words}
+use Rattle.text_out.specs.Words.{Words, spaced}
+use Rattle.scenario_lines.specs.Spelling.{line_text, size, burst_words, fate_words, guardian_words, shape_line_words, pick_line_words, host_words, switch_words, flow_words, link_words, step_words, ask_words, done_words}
 use Rattle.scenario_lines.specs.Weight.{frame_size, link_size, declared_size, happening_size}
 use Rattle.scenario_lines.proofs.SizeLemmas.{size_append}
 use Rattle.scenario_lines.proofs.WeightLemmas.{sum_same}
@@ -60,12 +61,12 @@ step_size flows switches steps.Release = line_size (step_words flows switches st
 three : (a b c : List ℕ) → length (a ++ (b ++ c)) ≡ (length a + length b) + length c
 three a b c = omega (arith, length-append a (b ++ c), length-append b c)
 
-first_size : (w : Scenario) → length (first_text w) ≡ (size guardian_words + size (shape_words w.shape)) + size (pick_line_words w.pick)
+first_size : (w : Scenario) → length (first_text w) ≡ (size guardian_words + size (shape_line_words w.shape)) + size (pick_line_words w.pick)
 first_size w =
     let guardian = line_size guardian_words (omega arith) in
-    let shape = line_size (shape_words w.shape) (omega arith) in
+    let shape = line_size (shape_line_words w.shape) (omega arith) in
     let pick = line_size (pick_line_words w.pick) (omega arith) in
-    three (line_text guardian_words) (line_text (shape_words w.shape)) (line_text (pick_line_words w.pick)) ∙ omega (arith, guardian, shape, pick)
+    three (line_text guardian_words) (line_text (shape_line_words w.shape)) (line_text (pick_line_words w.pick)) ∙ omega (arith, guardian, shape, pick)
 
 declared_size_is : (w : Scenario) → length (declared_text w) ≡ declared_size w.hosts w.switches w.flows
 declared_size_is w =

@@ -1,7 +1,8 @@
 -- How many bytes the lines of some parts take, and what is left of some room without them.
 use Rattle.std.specs.Prelude.{◌≡◌, ℕ, ◌+◌, ◌<◌, List, Option, Some, None}
 use Rattle.std.specs.List.{sum_by}
-use Rattle.scenario_lines.specs.Spelling.{Words, size}
+use Rattle.text_out.specs.Words.{Words}
+use Rattle.scenario_lines.specs.Spelling.{size}
 
 -- The bytes of the lines of some parts, with these words for each.
 abbrev pub lines_size : {X : Type 0} → (X → Words) → List X → ℕ

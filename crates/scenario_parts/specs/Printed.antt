@@ -3,7 +3,8 @@ use Rattle.std.specs.Prelude.{ℕ, List, [], ◌++◌, length, ◌==◌, if◌th
 use Rattle.std.specs.List.{flat_map}
 use Rattle.lg_model.specs.declared.scenario.HostLine.{HostLine}
 use Rattle.lg_model.specs.Scenario.{Scenario}
-use Rattle.scenario_lines.specs.Spelling.{Words, line_text, guardian_words, shape_words, pick_line_words, host_words, switch_words, flow_words, link_words, step_words, ask_words, done_words}
+use Rattle.text_out.specs.Words.{Words}
+use Rattle.scenario_lines.specs.Spelling.{line_text, guardian_words, shape_line_words, pick_line_words, host_words, switch_words, flow_words, link_words, step_words, ask_words, done_words}
 
 -- The text of the lines of some parts, in their order, with these words for each.
 abbrev pub lines_text : {X : Type 0} → (X → Words) → List X → List ℕ
@@ -15,7 +16,7 @@ link_text h = if length h.letters == 0 then [] else line_text (link_words h)
 
 -- The three first lines.
 abbrev pub first_text : Scenario → List ℕ
-first_text w = line_text guardian_words ++ (line_text (shape_words w.shape) ++ line_text (pick_line_words w.pick))
+first_text w = line_text guardian_words ++ (line_text (shape_line_words w.shape) ++ line_text (pick_line_words w.pick))
 
 -- The declarations: the hosts, the switches, the flows, and the links of hosts that have letters.
 abbrev pub declared_text : Scenario → List ℕ

@@ -4,7 +4,8 @@ ghost use Rattle.std.specs.Fmt.{decimal};
 ghost use Rattle.flow_key.specs.KeyText.{dotted};
 ghost use Rattle.lg_model.specs.Scenario.{IsFlow, IsStep, IsAsk};
 ghost use Rattle.scenario_lines.specs.Readable.{IsHostLine};
-ghost use Rattle.scenario_lines.specs.Spelling.{size, key_parts, hash_words, pick_words, burst_words, fate_words, shape_words, pick_line_words, host_words, switch_words, path_words, flow_words, step_words, ask_words};
+ghost use Rattle.text_out.specs.Shapes.{hash_words};
+ghost use Rattle.scenario_lines.specs.Spelling.{size, key_parts, pick_words, burst_words, fate_words, shape_line_words, pick_line_words, host_words, switch_words, path_words, flow_words, step_words, ask_words};
 ghost use Rattle.scenario_lines.specs.Weight.{link_size};
 
 use flow_key::FlowKey;
@@ -59,7 +60,7 @@ fn hash_len(hash: Hash) -> usize
 }
 
 pub(crate) fn shape_len(shape: Shape) -> usize
-    ensures value { result ≡ size (shape_words shape) }
+    ensures value { result ≡ size (shape_line_words shape) }
     ensures bound { result ≤ 74 }
 {
     6 + number_len(u64::from(shape.rows()))

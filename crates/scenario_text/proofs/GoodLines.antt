@@ -25,7 +25,8 @@ use Rattle.scenario_lines.specs.declared.section.Keyword.TheVariants as words
 use Rattle.scenario_lines.specs.Sections.{keyword_of}
 use Rattle.scenario_lines.specs.Counts.{names_of, path_at, ends_of}
 use Rattle.scenario_lines.specs.Readable.{AreApart, IsFlowLine}
-use Rattle.scenario_lines.specs.Spelling.{Words, joined, host_words, switch_words, host_names, key_parts, path_words, flow_words, byte_of, link_words, burst_words, fate_words, step_words, ask_words}
+use Rattle.text_out.specs.Words.{Words, joined}
+use Rattle.scenario_lines.specs.Spelling.{host_words, switch_words, host_names, key_parts, path_words, flow_words, byte_of, link_words, burst_words, fate_words, step_words, ask_words}
 use Rattle.scenario_lines.specs.Draft.{State, IsDraft}
 use Rattle.scenario_lines.specs.Fields.{◌>>=◌, number, word, ended, fresh, known, place, fresh_host, fresh_flow, host_place, room, room_to, all_room, room_for_all, hop, path, is_letter, letters_word, delays, burst, fate}
 use Rattle.scenario_lines.specs.Line.{host_line, switch_line, flow_line, linked, unlinked, link_line, packet_line, end_one, end_all, end_line, ask_line, line_of}

@@ -19,7 +19,8 @@ use Rattle.scenario_lines.specs.declared.section.Section.{Section}
 use Rattle.scenario_lines.specs.declared.section.Section.TheVariants.{First, Second, Third, Declarations, Steps}
 use Rattle.scenario_lines.specs.Sections.{is_done}
 use Rattle.scenario_lines.specs.Readable.{IsHash, IsPick}
-use Rattle.scenario_lines.specs.Spelling.{Words, joined, line_text, guardian_words, shape_words, pick_line_words, host_words, switch_words, flow_words, link_words, step_words, ask_words, done_words}
+use Rattle.text_out.specs.Words.{Words, joined}
+use Rattle.scenario_lines.specs.Spelling.{line_text, guardian_words, shape_line_words, pick_line_words, host_words, switch_words, flow_words, link_words, step_words, ask_words, done_words}
 use Rattle.scenario_lines.specs.Draft.{State, start, scenario_of, IsDraft}
 use Rattle.scenario_lines.specs.Line.{line_of}
 use Rattle.scenario_text.specs.Text.{Fault, after_line, lines_say, reading, most_bytes}
@@ -229,10 +230,10 @@ first_pass w ranges =
     let w0 = scenario_of start in
     let w1 : Scenario = record w0 { shape = w.shape } in
     let third = line_passes (at_state Third w1) (at_state Declarations (so_far w [] [] [] [] [])) (pick_line_words w.pick) refl (λ ok. (pick_are_words w.pick ranges.pick, λ u line. (pick_read w1 w.pick ranges.pick, none_declared w Declarations ranges.shape ranges.hash ranges.pick))) in
-    let second = line_passes (at_state Second w0) (at_state Third w1) (shape_words w.shape) refl (λ ok. (shape_are_words w.shape ranges.shape ranges.hash, λ u line. (shape_read w0 w.shape ranges.shape ranges.hash, none_declared w1 Third ranges.shape ranges.hash tt))) in
+    let second = line_passes (at_state Second w0) (at_state Third w1) (shape_line_words w.shape) refl (λ ok. (shape_are_words w.shape ranges.shape ranges.hash, λ u line. (shape_read w0 w.shape ranges.shape ranges.hash, none_declared w1 Third ranges.shape ranges.hash tt))) in
     let one = line_passes start (at_state Second w0) guardian_words refl (λ ok. ((refl, (refl, tt)), λ u line. (guardian_read w0, none_declared w0 Second ok.scenario.shape tt tt))) in
-    both start (at_state Second w0) (at_state Declarations (so_far w [] [] [] [] [])) (line_text guardian_words) (line_text (shape_words w.shape) ++ line_text (pick_line_words w.pick)) one
-    (both (at_state Second w0) (at_state Third w1) (at_state Declarations (so_far w [] [] [] [] [])) (line_text (shape_words w.shape)) (line_text (pick_line_words w.pick)) second third)
+    both start (at_state Second w0) (at_state Declarations (so_far w [] [] [] [] [])) (line_text guardian_words) (line_text (shape_line_words w.shape) ++ line_text (pick_line_words w.pick)) one
+    (both (at_state Second w0) (at_state Third w1) (at_state Declarations (so_far w [] [] [] [] [])) (line_text (shape_line_words w.shape)) (line_text (pick_line_words w.pick)) second third)
 
 declared_pass : (w : Scenario) → AreRanges w → ArePlaces w → Passes (at_state Declarations (so_far w [] [] [] [] [])) (declared_text w) (at_state Declarations (so_far w w.hosts w.switches w.flows [] []))
 declared_pass w ranges places =

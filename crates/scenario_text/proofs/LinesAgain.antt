@@ -34,7 +34,9 @@ use Rattle.scenario_lines.specs.declared.section.Keyword.TheVariants as words
 use Rattle.scenario_lines.specs.Sections.{is_first, has_place, keyword_of}
 use Rattle.scenario_lines.specs.Counts.{names_of, path_at, ends_of}
 use Rattle.scenario_lines.specs.Readable.{AreApart, IsHash, IsPick, IsFlowLine}
-use Rattle.scenario_lines.specs.Spelling.{Words, joined, guardian_words, shape_words, hash_words, pick_words, pick_line_words, host_words, switch_words, host_names, key_parts, path_words, flow_words, byte_of, link_words, burst_words, fate_words, step_words, ask_words, done_words}
+use Rattle.text_out.specs.Words.{Words, joined}
+use Rattle.text_out.specs.Shapes.{hash_words}
+use Rattle.scenario_lines.specs.Spelling.{guardian_words, shape_line_words, pick_words, pick_line_words, host_words, switch_words, host_names, key_parts, path_words, flow_words, byte_of, link_words, burst_words, fate_words, step_words, ask_words, done_words}
 use Rattle.scenario_lines.specs.Draft.{State}
 use Rattle.scenario_lines.specs.Fields.{word, ended, fresh, known, place, fresh_host, host_place, fresh_flow, room, room_to, all_room, room_for_all, key_address, key_number, key, hop, path, hash, pick, is_letter, letter_of, letters_word, delays, burst, fate, fate_ended}
 use Rattle.scenario_lines.specs.Line.{shape_line, pick_line, host_line, switch_line, flow_line, unlinked, link_line, packet_line, end_one, end_all, end_line, release_line, ask_line, done_line, form_of, words_line, is_skipped, line_of}
@@ -72,10 +74,10 @@ hash_are_words : (x : Hash) → IsHash x → AreWords (hash_words x)
 hash_are_words hashes.Ports ok = (refl, tt)
 hash_are_words (hashes.Seed n) ok = (refl, (number_word_is n ok, tt))
 
-pub shape_are_words : (x : Shape) → IsShape x.rows x.width → IsHash x.hash → AreWords (shape_words x)
+pub shape_are_words : (x : Shape) → IsShape x.rows x.width → IsHash x.hash → AreWords (shape_line_words x)
 shape_are_words x fits ok = (refl, (number_word_is x.rows (omega (arith, fits.few_rows)), (number_word_is x.width (omega (arith, fits.few_width)), hash_are_words x.hash ok)))
 
-pub shape_read : (w : Scenario) (x : Shape) → IsShape x.rows x.width → IsHash x.hash → line_of (at_state Second w) (joined (shape_words x)) ≡ Ok (at_state Third (record w { shape = x }))
+pub shape_read : (w : Scenario) (x : Shape) → IsShape x.rows x.width → IsHash x.hash → line_of (at_state Second w) (joined (shape_line_words x)) ≡ Ok (at_state Third (record w { shape = x }))
 unfolding keyword_of shape_line ended
 shape_read w x fits ok =
     form_read (at_state Second w) (codes "shape") (decimal x.rows ∷ decimal x.width ∷ hash_words x.hash) words.Shape refl refl refl refl (shape_are_words x fits ok)

@@ -6,7 +6,8 @@ use Rattle.std.proofs.lemmas.List.Sums.{list_all-from_AllPass}
 use Rattle.lg_model.specs.declared.scenario.Pick.{Pick}
 use Rattle.lg_model.specs.Placing.{Shape}
 use Rattle.lg_model.specs.Scenario.{Scenario}
-use Rattle.scenario_lines.specs.Spelling.{Words, spaced, joined, line_text, guardian_words, shape_words, pick_line_words}
+use Rattle.text_out.specs.Words.{Words, spaced, joined}
+use Rattle.scenario_lines.specs.Spelling.{line_text, guardian_words, shape_line_words, pick_line_words}
 use Rattle.scenario_parts.specs.Printed.{first_text, declared_text, happening_text, text_of}
 
 spaced_append : (ws vs : Words) → spaced (ws ++ vs) ≡ spaced ws ++ spaced vs
@@ -32,7 +33,7 @@ path_within n path within = list_all-from_AllPass (λ at. nat_lt at n) path (λ 
 
 -- ---- the whole text
 
-pub in_three : (w : Scenario) (none one two three : List ℕ) (shape : Shape) (pick : Pick) → none ≡ [] → shape ≡ w.shape → pick ≡ w.pick → one ≡ none ++ (line_text guardian_words ++ (line_text (shape_words shape) ++ line_text (pick_line_words pick))) → two ≡ one ++ declared_text w → three ≡ two ++ happening_text w → three ≡ text_of w
+pub in_three : (w : Scenario) (none one two three : List ℕ) (shape : Shape) (pick : Pick) → none ≡ [] → shape ≡ w.shape → pick ≡ w.pick → one ≡ none ++ (line_text guardian_words ++ (line_text (shape_line_words shape) ++ line_text (pick_line_words pick))) → two ≡ one ++ declared_text w → three ≡ two ++ happening_text w → three ≡ text_of w
 in_three w none one two three shape pick empty is_shape is_pick first second third =
     let a : one ≡ first_text w = first ∙ rw (empty, is_shape, is_pick) refl in
     let b : two ≡ first_text w ++ declared_text w = second ∙ ap (λ (xs : List ℕ). xs ++ declared_text w) a in

@@ -15,7 +15,8 @@ use Rattle.scenario_lines.specs.declared.section.Section.TheVariants.{First, Sec
 use Rattle.scenario_lines.specs.Sections.{is_done}
 use Rattle.scenario_lines.specs.Counts.{names_of, ends_of}
 use Rattle.scenario_lines.specs.Readable.{AreApart, IsHostLine, IsFlowLine, IsStepLine, IsAskLine}
-use Rattle.scenario_lines.specs.Spelling.{Words, joined, line_text, guardian_words, shape_words, pick_line_words, host_words, switch_words, host_names, flow_words, link_words, step_words, ask_words, done_words}
+use Rattle.text_out.specs.Words.{Words, joined}
+use Rattle.scenario_lines.specs.Spelling.{line_text, guardian_words, shape_line_words, pick_line_words, host_words, switch_words, host_names, flow_words, link_words, step_words, ask_words, done_words}
 use Rattle.scenario_lines.specs.Draft.{State, start, scenario_of}
 use Rattle.scenario_lines.specs.Line.{line_of}
 use Rattle.scenario_text.specs.Text.{lines_say, reading, most_bytes}
@@ -242,9 +243,9 @@ first w more h then =
     let w0 = scenario_of start in
     let w1 : Scenario = record w0 { shape = w.shape } in
     let third = before (at_state Third w1) (at_state Declarations (so_far w [] [] [] [] [])) (pick_line_words w.pick) more w (pick_are_words w.pick h.lines.pick) (pick_read w1 w.pick h.lines.pick) refl then in
-    let second = before (at_state Second w0) (at_state Third w1) (shape_words w.shape) (line_text (pick_line_words w.pick) ++ more) w (shape_are_words w.shape h.fits.shape h.lines.hash) (shape_read w0 w.shape h.fits.shape h.lines.hash) refl third in
-    let one = before (at_state First w0) (at_state Second w0) guardian_words (line_text (shape_words w.shape) ++ (line_text (pick_line_words w.pick) ++ more)) w (refl, (refl, tt)) (guardian_read w0) refl second in
-    three start w (line_text guardian_words) (line_text (shape_words w.shape)) (line_text (pick_line_words w.pick)) more one
+    let second = before (at_state Second w0) (at_state Third w1) (shape_line_words w.shape) (line_text (pick_line_words w.pick) ++ more) w (shape_are_words w.shape h.fits.shape h.lines.hash) (shape_read w0 w.shape h.fits.shape h.lines.hash) refl third in
+    let one = before (at_state First w0) (at_state Second w0) guardian_words (line_text (shape_line_words w.shape) ++ (line_text (pick_line_words w.pick) ++ more)) w (refl, (refl, tt)) (guardian_read w0) refl second in
+    three start w (line_text guardian_words) (line_text (shape_line_words w.shape)) (line_text (pick_line_words w.pick)) more one
 
 reads_whole : (text : List ℕ) (w : Scenario) → Reads start text w → length text ≤ most_bytes → reading text ≡ Ok w
 unfolding reading

@@ -17,7 +17,8 @@ use Rattle.flow_key.specs.declared.key.FlowKey.{FlowKey}
 use Rattle.flow_key.specs.KeyText.{IsAddress, Fits, dotted}
 use Rattle.flow_key.specs.Words.{words_at}
 use Rattle.flow_key.proofs.KeyLemmas.{number_again, AreFree}
-use Rattle.scenario_lines.specs.Spelling.{Words, spaced, joined, key_parts}
+use Rattle.text_out.specs.Words.{Words, spaced, joined}
+use Rattle.scenario_lines.specs.Spelling.{key_parts}
 use Rattle.scenario_lines.specs.Fields.{number}
 
 -- ---- words of bytes above the space

@@ -1,6 +1,6 @@
 //! The text of a scenario.
 ghost use Rattle.std.specs.Prelude.{◌≡◌, ◌≤◌, ◌++◌, length, OnOk, IfOk, Ok};
-ghost use Rattle.scenario_lines.specs.Spelling.{line_text, guardian_words, shape_words, pick_line_words};
+ghost use Rattle.scenario_lines.specs.Spelling.{line_text, guardian_words, shape_line_words, pick_line_words};
 ghost use Rattle.scenario_text.specs.Text.{reading};
 ghost use Rattle.scenario_parts.specs.Printed.{declared_text, happening_text, text_of};
 
@@ -11,17 +11,17 @@ use crate::scenario::Scenario;
 use lg_base::Memory;
 use lg_model::Pick;
 use row_hash::Shape;
-use std::alloc::{AllocError, Global};
+use std::alloc::Global;
 
-fn put_first_lines(out: &mut Vec<u8>, shape: Shape, pick: &Pick) -> Result<(), AllocError>
-    ensures { OnOk result (out.new.items ≡ out.old.items ++ (line_text guardian_words ++ (line_text (shape_words shape) ++ line_text (pick_line_words pick.now)))) }
+fn put_first_lines(out: &mut Vec<u8>, shape: &Shape, pick: &Pick) -> Result<(), Memory>
+    ensures { OnOk result (out.new.items ≡ out.old.items ++ (line_text guardian_words ++ (line_text (shape_line_words shape.now) ++ line_text (pick_line_words pick.now)))) }
 {
     put_guardian(out)?;
     put_shape(out, shape)?;
     put_pick(out, pick)
 }
 
-fn put_declarations(out: &mut Vec<u8>, scenario: &Scenario) -> Result<(), AllocError>
+fn put_declarations(out: &mut Vec<u8>, scenario: &Scenario) -> Result<(), Memory>
     ensures { OnOk result (out.new.items ≡ out.old.items ++ declared_text scenario.now) }
 {
     let hosts = scenario.hosts();
@@ -32,7 +32,7 @@ fn put_declarations(out: &mut Vec<u8>, scenario: &Scenario) -> Result<(), AllocE
     put_links(out, hosts)
 }
 
-fn put_happenings(out: &mut Vec<u8>, scenario: &Scenario) -> Result<(), AllocError>
+fn put_happenings(out: &mut Vec<u8>, scenario: &Scenario) -> Result<(), Memory>
     ensures { OnOk result (out.new.items ≡ out.old.items ++ happening_text scenario.now) }
 {
     let flows = scenario.flows();
@@ -41,20 +41,20 @@ fn put_happenings(out: &mut Vec<u8>, scenario: &Scenario) -> Result<(), AllocErr
     put_done(out)
 }
 
-/// The text of a scenario (docs/FORMATS.md, Scenario text): the three first lines; the hosts, the switches, the flows
+/// The text of a scenario (docs/FORMATS.md, Scenario text): the first three lines; the hosts, the switches, the flows
 /// and the links of hosts that have letters, each in the order of the scenario; the steps; the asks; and `done`. Every
 /// line ends with 0A, and `burst 1` is left out.
 ///
 /// It is at most 16,777,216 bytes long, and is read as the same scenario.
 ///
-/// `Memory` where no memory was found.
+/// `Memory` where memory runs out.
 pub fn print(alloc: Global, scenario: &Scenario) -> Result<Vec<u8>, Memory>
     ensures text { IfOk result (λ text. text.items ≡ text_of scenario.now) }
     ensures short { IfOk result (λ text. length text.items ≤ 16777216) }
     ensures again { IfOk result (λ text. reading text.items ≡ Ok scenario.now) }
 {
     let mut out = Vec::new(alloc);
-    put_first_lines(&mut out, scenario.shape(), scenario.pick())?;
+    put_first_lines(&mut out, &scenario.shape(), scenario.pick())?;
     put_declarations(&mut out, scenario)?;
     put_happenings(&mut out, scenario)?;
     Ok(out)

@@ -3,14 +3,16 @@ ghost use Rattle.std.specs.Prelude.{◌≡◌, ◌<◌, ◌++◌, ◌∷◌, [],
 ghost use Rattle.std.specs.Fmt.{decimal};
 ghost use Rattle.lg_model.specs.Scenario.{IsStep, IsAsk};
 ghost use Rattle.scenario_lines.specs.Counts.{names_of};
-ghost use Rattle.scenario_lines.specs.Spelling.{spaced, joined, line_text, burst_words, fate_words, step_words, ask_words, done_words};
+ghost use Rattle.text_out.specs.Words.{spaced, joined};
+ghost use Rattle.scenario_lines.specs.Spelling.{line_text, burst_words, fate_words, step_words, ask_words, done_words};
 ghost use Rattle.scenario_parts.specs.Printed.{lines_text};
 
-use crate::put::{put_byte, put_delays, put_next, put_text};
+use crate::put::{put_delays, put_next};
+use lg_base::Memory;
 use lg_model::{Ask, Fate, Flow, Step};
-use std::alloc::AllocError;
+use text_out::put_text;
 
-fn put_burst(out: &mut Vec<u8>, burst: u32) -> Result<(), AllocError>
+fn put_burst(out: &mut Vec<u8>, burst: u32) -> Result<(), Memory>
     ensures { OnOk result (out.new.items ≡ out.old.items ++ spaced (burst_words burst)) }
 {
     if burst == 1 {
@@ -21,7 +23,7 @@ fn put_burst(out: &mut Vec<u8>, burst: u32) -> Result<(), AllocError>
     }
 }
 
-fn put_fate(out: &mut Vec<u8>, fate: Fate) -> Result<(), AllocError>
+fn put_fate(out: &mut Vec<u8>, fate: Fate) -> Result<(), Memory>
     ensures { OnOk result (out.new.items ≡ out.old.items ++ spaced (fate_words fate)) }
 {
     match fate {
@@ -35,12 +37,7 @@ fn put_fate(out: &mut Vec<u8>, fate: Fate) -> Result<(), AllocError>
     }
 }
 
-fn put_packet_front(
-    out: &mut Vec<u8>,
-    name: u16,
-    size: u16,
-    delays: &[u32],
-) -> Result<(), AllocError>
+fn put_packet_front(out: &mut Vec<u8>, name: u16, size: u16, delays: &[u32]) -> Result<(), Memory>
     ensures { OnOk result (out.new.items ≡ out.old.items ++ joined (codes "packet" ∷ decimal name ∷ decimal size ∷ map decimal delays.now)) }
 {
     put_text(out, b"packet")?;
@@ -49,7 +46,7 @@ fn put_packet_front(
     put_delays(out, delays)
 }
 
-fn put_tail(out: &mut Vec<u8>, burst: u32, fate: Fate) -> Result<(), AllocError>
+fn put_tail(out: &mut Vec<u8>, burst: u32, fate: Fate) -> Result<(), Memory>
     ensures { OnOk result (out.new.items ≡ out.old.items ++ spaced (burst_words burst ++ fate_words fate)) }
 {
     put_burst(out, burst)?;
@@ -63,7 +60,7 @@ fn put_packet(
     delays: &[u32],
     burst: u32,
     fate: Fate,
-) -> Result<(), AllocError>
+) -> Result<(), Memory>
     ensures { OnOk result (out.new.items ≡ out.old.items ++ joined (codes "packet" ∷ decimal name ∷ decimal size ∷ (map decimal delays.now ++ (burst_words burst ++ fate_words fate)))) }
 {
     put_packet_front(out, name, size, delays)?;
@@ -82,7 +79,7 @@ fn put_step_words(
     flows: &[Flow],
     switches: &[u16],
     step: &Step,
-) -> Result<(), AllocError>
+) -> Result<(), Memory>
     requires { IsStep (length switches.now) flows.now step.now }
     ensures { OnOk result (out.new.items ≡ out.old.items ++ joined (step_words flows.now switches.now step.now)) }
 {
@@ -106,17 +103,12 @@ fn put_step_words(
     }
 }
 
-fn put_step(
-    out: &mut Vec<u8>,
-    flows: &[Flow],
-    switches: &[u16],
-    step: &Step,
-) -> Result<(), AllocError>
+fn put_step(out: &mut Vec<u8>, flows: &[Flow], switches: &[u16], step: &Step) -> Result<(), Memory>
     requires { IsStep (length switches.now) flows.now step.now }
     ensures { OnOk result (out.new.items ≡ out.old.items ++ line_text (step_words flows.now switches.now step.now)) }
 {
     put_step_words(out, flows, switches, step)?;
-    put_byte(out, b'\n')
+    put_text(out, b"\n")
 }
 
 pub(crate) fn put_steps(
@@ -124,7 +116,7 @@ pub(crate) fn put_steps(
     flows: &[Flow],
     switches: &[u16],
     steps: &[Step],
-) -> Result<(), AllocError>
+) -> Result<(), Memory>
     requires { All (IsStep (length switches.now) flows.now) steps.now }
     ensures { OnOk result (out.new.items ≡ out.old.items ++ lines_text (step_words flows.now switches.now) steps.now) }
 {
@@ -134,7 +126,7 @@ pub(crate) fn put_steps(
     Ok(())
 }
 
-fn put_ask(out: &mut Vec<u8>, flows: &[Flow], ask: &Ask) -> Result<(), AllocError>
+fn put_ask(out: &mut Vec<u8>, flows: &[Flow], ask: &Ask) -> Result<(), Memory>
     requires { IsAsk flows.now ask.now }
     ensures { OnOk result (out.new.items ≡ out.old.items ++ line_text (ask_words flows.now ask.now)) }
 {
@@ -142,10 +134,10 @@ fn put_ask(out: &mut Vec<u8>, flows: &[Flow], ask: &Ask) -> Result<(), AllocErro
     put_next(out, flow_name(flows, ask.flow_at) as u64)?;
     put_next(out, ask.switch as u64)?;
     put_next(out, ask.epoch as u64)?;
-    put_byte(out, b'\n')
+    put_text(out, b"\n")
 }
 
-pub(crate) fn put_asks(out: &mut Vec<u8>, flows: &[Flow], asks: &[Ask]) -> Result<(), AllocError>
+pub(crate) fn put_asks(out: &mut Vec<u8>, flows: &[Flow], asks: &[Ask]) -> Result<(), Memory>
     requires { All (IsAsk flows.now) asks.now }
     ensures { OnOk result (out.new.items ≡ out.old.items ++ lines_text (ask_words flows.now) asks.now) }
 {
@@ -155,7 +147,7 @@ pub(crate) fn put_asks(out: &mut Vec<u8>, flows: &[Flow], asks: &[Ask]) -> Resul
     Ok(())
 }
 
-pub(crate) fn put_done(out: &mut Vec<u8>) -> Result<(), AllocError>
+pub(crate) fn put_done(out: &mut Vec<u8>) -> Result<(), Memory>
     ensures { OnOk result (out.new.items ≡ out.old.items ++ line_text done_words) }
 {
     put_text(out, b"done\n")

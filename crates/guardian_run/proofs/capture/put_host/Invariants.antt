@@ -5,7 +5,7 @@ use Rattle.lg_model.specs.Arriving.{brought}
 use Rattle.lg_model.specs.Columns.{Column}
 use Rattle.sketchlet_wire.specs.Spelling.{spelling}
 use Rattle.sketchlet_wire.specs.Carried.{column_data, dims_of}
-use Rattle.report_text.specs.Lines.{hex_line}
+use Rattle.report_text.specs.Capture.{hex_line}
 use Rattle.guardian_run.proofs.capture.put_host.Given as goal
 
 abbrev pub invariant-loop-packed : goal.invariant-loop-packed

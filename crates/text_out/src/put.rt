@@ -1,6 +1,7 @@
 //! What lines are written with.
 ghost use Rattle.std.specs.Fmt.{decimal};
-ghost use Rattle.report_text.specs.Lines.{field, AppendsOrNot, AppendsText};
+ghost use Rattle.text_out.specs.Appending.{AppendsOrNot, AppendsText};
+ghost use Rattle.text_out.specs.Words.{field};
 
 use itoa::Buffer;
 use lg_base::Memory;
@@ -21,8 +22,9 @@ pub fn put_number(out: &mut Vec<u8>, n: u64) -> Result<(), Memory>
     put_text(out, digits.format(n).as_bytes())
 }
 
-// Appends a word with its spaces, and a number.
-pub(crate) fn put_field(out: &mut Vec<u8>, word: &[u8], n: u64) -> Result<(), Memory>
+/// Appends a word, with the spaces around it, and a number in decimal. At `Memory` what stood before is kept, and a part
+/// of this may stand after it.
+pub fn put_field(out: &mut Vec<u8>, word: &[u8], n: u64) -> Result<(), Memory>
     ensures { AppendsText result out.old.items out.new.items (field word.now n) }
 {
     put_text(out, word)?;

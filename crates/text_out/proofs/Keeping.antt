@@ -3,7 +3,7 @@ use Rattle.std.specs.Prelude.{◌≡◌, ℕ, List, ◌++◌, length, take, drop
 use Rattle.std.proofs.Common.{refl, sym, ap, ◌∙◌, append_assoc}
 use Rattle.std.proofs.Math.Seq.{take-length}
 use Rattle.std.proofs.lemmas.List.{take_at, take-append-drop}
-use Rattle.report_text.specs.Lines.{Keeps}
+use Rattle.text_out.specs.Appending.{Keeps}
 
 pub keeps_itself : (before after : List ℕ) → after ≡ before → Keeps before after
 keeps_itself before after is = record { front = rw is (take-length before) }
