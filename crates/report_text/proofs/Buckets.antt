@@ -1,7 +1,7 @@
 -- The buckets of a column and of a row, one after the other.
 use Rattle.std.specs.Prelude.{◌≡◌, ℕ, ◌+◌, ◌<◌, List, [], ◌∷◌, ◌++◌, map, take, length, slice_index_or}
 use Rattle.std.specs.List.{flat_map, range_with_len}
-use Rattle.std.proofs.Common.{refl, sym, ap, ◌∙◌, append-nil, append_assoc}
+use Rattle.std.proofs.Common.{sym, ap, ◌∙◌, append-nil, append_assoc, arith}
 use Rattle.std.proofs.lemmas.List.{take_more}
 use Rattle.std.proofs.lemmas.List.FromFn.{map-range_with_len_more}
 use Rattle.std.proofs.lemmas.Grind.{flat_map-append}
@@ -25,6 +25,7 @@ pub row_more : (s : SketchState) (row n : ℕ) (b : Bucket) (old now next : List
     now ≡ old ++ row_text s row n → next ≡ now ++ bucket_text b → next ≡ old ++ row_text s row (n + 1)
 row_more s row n b old now next at so_far is =
     let bs = map (λ j. bucket_at s.table row j) (range_with_len 0 n) in
+    let from : 0 + n ≡ n = omega arith in
     is ∙ ap (λ (t : List ℕ). t ++ bucket_text b) so_far ∙ append_assoc old (row_text s row n) (bucket_text b)
     ∙ ap (λ (t : List ℕ). old ++ t) (sym (text_push bs b) ∙ ap (λ (x : Bucket). flat_map bucket_text (bs ++ x ∷ [])) at
-    ∙ ap (flat_map bucket_text) (sym (map-range_with_len_more (λ j. bucket_at s.table row j) 0 n n refl)))
+    ∙ ap (flat_map bucket_text) (sym (map-range_with_len_more (λ j. bucket_at s.table row j) 0 n n from)))
