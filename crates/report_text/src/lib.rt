@@ -19,6 +19,8 @@
 mod answers;
 mod captures;
 mod columns;
+#[cfg(test)]
+mod columns_tests;
 mod faults;
 #[cfg(test)]
 mod tests;
