@@ -13,5 +13,6 @@ pub mod TwinsState
 pub mod Offering
 pub mod Runs
 pub mod Answer
+pub mod Joining
 pub mod Settled
 pub mod Worked

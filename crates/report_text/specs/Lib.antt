@@ -1,3 +1,4 @@
 pub mod Report
 pub mod Capture
 pub mod Faults
+pub mod Columns

@@ -6,6 +6,9 @@
 //! | [`answer_line`], [`put_answer_line`] | the line of an answer |
 //! | [`put_columns_line`], [`put_sketchlets_line`] | the last line of a report, and of a capture |
 //! | [`hex_line`], [`put_hex_line`] | the line of a sketchlet |
+//! | [`column_line`], [`put_column_line`] | the line of a column |
+//! | [`row_line`], [`put_row_line`] | the line of a row of a sketch |
+//! | [`acked_line`], [`put_acked_line`] | the line of an acknowledged upload |
 //! | [`scenario_line`], [`put_scenario_line`] | the line of a scenario text that is refused |
 //! | [`usage_line`], [`read_fault_line`], [`no_memory_line`] | the fault lines that never change |
 //! | [`put_text`], [`put_number`] | what other lines are written with |
@@ -15,11 +18,17 @@
 
 mod answers;
 mod captures;
+mod columns;
+#[cfg(test)]
+mod columns_tests;
 mod faults;
 #[cfg(test)]
 mod tests;
 
 pub use answers::{answer_line, put_answer_line, put_columns_line};
 pub use captures::{hex_line, put_hex_line, put_sketchlets_line};
+pub use columns::{
+    acked_line, column_line, put_acked_line, put_column_line, put_row_line, row_line,
+};
 pub use faults::{no_memory_line, put_scenario_line, read_fault_line, scenario_line, usage_line};
 pub use text_out::{put_number, put_text};
