@@ -27,14 +27,14 @@ other a name ne = grind arith
 pub found_name : (names at : List ℕ) (name i : ℕ) → IsIndexed names at → i ≡ get_or at name 0 → i < length names → get_or names i 0 ≡ name → position (λ m. eqb m name) names ≡ Some i
 found_name names at name i ok is lt same = position_is (λ m. eqb m name) names i lt (grind arith) below where
   below : (k : ℕ) → k < i → eqb (get_or names k 0) name ≡ false
-  below k less = other (get_or names k 0) name (λ e. let p = subst (λ (n : ℕ). get_or at n 0 ≡ k) e (ok.place k (omega arith)) in absurd (omega arith))
+  below k less = other (get_or names k 0) name (λ e. let p = subst (λ (n : ℕ). get_or at n 0 ≡ k) e (ok.stands k (omega arith)) in absurd (omega arith))
 
 -- a name with no place of its own isn't there
 pub no_name : (names at : List ℕ) (name : ℕ) → IsIndexed names at → (name < length at → get_or at name 0 < length names → get_or names (get_or at name 0) 0 ≢ name) → position (λ m. eqb m name) names ≡ None
 no_name names at name ok never = position_none (λ m. eqb m name) names (λ k lt. other (get_or names k 0) name (λ e. there k lt e)) where
   there : (k : ℕ) → k < length names → get_or names k 0 ≡ name → ⊥
   there k lt e =
-      let p : get_or at name 0 ≡ k = subst (λ (n : ℕ). get_or at n 0 ≡ k) e (ok.place k lt) in
+      let p : get_or at name 0 ≡ k = subst (λ (n : ℕ). get_or at n 0 ≡ k) e (ok.stands k lt) in
       let q : name < length at = subst (λ (n : ℕ). n < length at) e (ok.known k lt) in
       never q (omega arith) (subst (λ (n : ℕ). get_or names n 0 ≡ name) (sym p) e)
 
@@ -48,7 +48,7 @@ pub indexed_grown : (names at now : List ℕ) → IsIndexed names at → take (l
 indexed_grown names at now ok kept = record {
   few = ok.few;
   known = λ i lt. omega (arith, ok.known i lt, longer at now kept);
-  place = λ i lt. new_place at now (get_or names i 0) (ok.known i lt) kept ∙ ok.place i lt;
+  stands = λ i lt. new_place at now (get_or names i 0) (ok.known i lt) kept ∙ ok.stands i lt;
 }
 
 none_step : (p : ℕ → Bool) (x : ℕ) (xs : List ℕ) (i : ℕ) (b : Bool) → p x ≡ b → ((j : ℕ) → length xs ≤ position_or_len p xs → j < length xs → p (get_or xs j 0) ≡ false) → length (x ∷ xs) ≤ position_or_len p (x ∷ xs) → i < length (x ∷ xs) → p (get_or (x ∷ xs) i 0) ≡ false
@@ -75,7 +75,7 @@ pub indexed_more : (names at : List ℕ) (name : ℕ) → IsIndexed names at →
 indexed_more names at name ok fresh few wide = record {
   few = omega (arith, length-append names (name ∷ []));
   known = λ i lt. one_known i (cases_lt i (length names)) lt;
-  place = λ i lt. one_place i (cases_lt i (length names)) lt;
+  stands = λ i lt. one_place i (cases_lt i (length names)) lt;
 } where
   one_known : (i : ℕ) → (i < length names) ⊎ (length names ≤ i) → i < length (names ++ name ∷ []) → get_or (names ++ name ∷ []) i 0 < length (set at name (length names))
   one_known i (inl old) lt = rw get_or_append_left (omega (arith, ok.known i old, length-set {A = ℕ}))
@@ -85,7 +85,7 @@ indexed_more names at name ok fresh few wide = record {
 
   one_place : (i : ℕ) → (i < length names) ⊎ (length names ≤ i) → i < length (names ++ name ∷ []) → get_or (set at name (length names)) (get_or (names ++ name ∷ []) i 0) 0 ≡ i
   one_place i (inl old) lt =
-      rw (get_or_append_left names (name ∷ []) 0 i old, get_or-set_other at name (get_or names i 0) (length names) 0 (not_there names name i fresh old)) (ok.place i old)
+      rw (get_or_append_left names (name ∷ []) 0 i old, get_or-set_other at name (get_or names i 0) (length names) 0 (not_there names name i fresh old)) (ok.stands i old)
   one_place i (inr new) lt =
       let e : i ≡ length names = omega (arith, length-append names (name ∷ [])) in
       rw (e, get_or-append_seam names name [] 0) (get_or-set_same at name (length names) 0 wide)

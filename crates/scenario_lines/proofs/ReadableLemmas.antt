@@ -19,7 +19,7 @@ use Rattle.lg_model.specs.Scenario.{Scenario}
 use Rattle.scenario_lines.specs.Counts.{names_of}
 use Rattle.scenario_lines.specs.Index.{IsIndexed}
 use Rattle.scenario_lines.specs.Spelling.{host_names}
-use Rattle.scenario_lines.specs.Readable.{AreApart, IsHash, IsPick, IsHostLine, IsFlowLine, IsStepLine, IsAskLine, IsReadable}
+use Rattle.scenario_lines.specs.Readable.{AreApart, IsHashRange, IsPickRange, IsHostLine, IsFlowLine, IsStepLine, IsAskLine, IsReadable}
 use Rattle.scenario_lines.specs.Line.{linked, linked_at}
 
 -- ---- names of their own
@@ -46,8 +46,8 @@ apart_push names n ok fresh = all_pairs_push (λ m n. m ≢ n) names n ok (λ k 
 pub indexed_apart : (names at : List ℕ) → IsIndexed names at → AreApart names
 indexed_apart names at ok i j d less lt = λ e.
     let same : get_or names i 0 ≡ get_or names j 0 = get_or_default names i 0 d (omega arith) ∙ e ∙ get_or_default names j d 0 lt in
-    let one = ok.place i (omega arith) in
-    let two = ok.place j lt in
+    let one = ok.stands i (omega arith) in
+    let two = ok.stands j lt in
     let place = sym one ∙ ap (λ (n : ℕ). slice_index at n) same ∙ two in
     absurd (omega (arith, place))
 
@@ -78,7 +78,7 @@ lines_set hosts at ls (Some h) is ok few =
 
 -- ---- one line more
 
-pub shaped_lines : (w : Scenario) (shape : Shape) → IsReadable w → IsHash shape.hash → IsReadable (record w { shape = shape })
+pub shaped_lines : (w : Scenario) (shape : Shape) → IsReadable w → IsHashRange shape.hash → IsReadable (record w { shape = shape })
 shaped_lines w shape ok hash = record {
   hash = hash;
   pick = ok.pick;
@@ -94,7 +94,7 @@ shaped_lines w shape ok hash = record {
   asks = ok.asks;
 }
 
-pub picked_lines : (w : Scenario) (p : Pick) → IsReadable w → IsPick p → IsReadable (record w { pick = p })
+pub picked_lines : (w : Scenario) (p : Pick) → IsReadable w → IsPickRange p → IsReadable (record w { pick = p })
 picked_lines w p ok pick = record {
   hash = ok.hash;
   pick = pick;

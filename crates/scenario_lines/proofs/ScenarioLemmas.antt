@@ -14,13 +14,14 @@ use Rattle.lg_model.specs.declared.scenario.Letter.{Letter}
 use Rattle.lg_model.specs.Placing.{Shape, IsShape}
 use Rattle.lg_model.specs.Scenario.{IsFlow, IsStep, IsAsk, flow_at, no_flow, packet_count, burst_of, is_end_of}
 use Rattle.scenario_lines.specs.declared.section.Section.{Section}
-use Rattle.scenario_lines.specs.declared.section.Section.TheVariants.{First, Second, Third, Declarations, Steps, Done}
+use Rattle.scenario_lines.specs.declared.section.Section.TheVariants as sections
+use Rattle.scenario_lines.specs.declared.section.Section.TheVariants.{Declarations, Steps, Done}
 use Rattle.scenario_lines.specs.declared.section.Keyword.TheVariants as words
-use Rattle.scenario_lines.specs.Sections.{has_steps, has_place, is_first}
+use Rattle.scenario_lines.specs.Sections.{has_steps, admits, is_first}
 use Rattle.std.specs.List.{list_any}
 use Rattle.scenario_lines.specs.Counts.{names_of, ends_of}
 use Rattle.scenario_lines.specs.Index.{IsIndexed}
-use Rattle.scenario_lines.specs.Readable.{IsHash, IsPick, IsHostLine, IsFlowLine, IsStepLine, IsAskLine, IsReadable}
+use Rattle.scenario_lines.specs.Readable.{IsHashRange, IsPickRange, IsHostLine, IsFlowLine, IsStepLine, IsAskLine, IsReadable}
 use Rattle.scenario_lines.specs.Draft.{State, IsDraft, scenario_of}
 use Rattle.scenario_lines.proofs.ReadableLemmas.{shaped_lines, picked_lines, host_lines, linked_lines, switch_lines, flow_lines, step_lines, ask_lines}
 use Rattle.scenario_lines.specs.Fields.{all_room}
@@ -30,40 +31,40 @@ use Rattle.scenario_lines.proofs.CountLemmas.{ends_more, packets_more}
 -- ---- sections
 
 pub before_first : (x : Section) → is_first x ≡ true → has_steps x ≡ false
-before_first First is = refl
-before_first Second is = refl
-before_first Third is = refl
+before_first sections.Version is = refl
+before_first sections.Shape is = refl
+before_first sections.Pick is = refl
 before_first Declarations is = refl
 before_first Steps is = absurd cc
 before_first Done is = absurd cc
 
-pub before_shape : (x : Section) → has_place x words.Shape ≡ true → has_steps x ≡ false
-before_shape First is = refl
-before_shape Second is = refl
-before_shape Third is = refl
+pub before_shape : (x : Section) → admits x words.Shape ≡ true → has_steps x ≡ false
+before_shape sections.Version is = refl
+before_shape sections.Shape is = refl
+before_shape sections.Pick is = refl
 before_shape Declarations is = refl
 before_shape Steps is = absurd cc
 before_shape Done is = absurd cc
 
-pub before_pick : (x : Section) → has_place x words.Pick ≡ true → has_steps x ≡ false
-before_pick First is = refl
-before_pick Second is = refl
-before_pick Third is = refl
+pub before_pick : (x : Section) → admits x words.Pick ≡ true → has_steps x ≡ false
+before_pick sections.Version is = refl
+before_pick sections.Shape is = refl
+before_pick sections.Pick is = refl
 before_pick Declarations is = refl
 before_pick Steps is = absurd cc
 before_pick Done is = absurd cc
 
-pub before_switch : (x : Section) → has_place x words.Switch ≡ true → has_steps x ≡ false
-before_switch First is = refl
-before_switch Second is = refl
-before_switch Third is = refl
+pub before_switch : (x : Section) → admits x words.Switch ≡ true → has_steps x ≡ false
+before_switch sections.Version is = refl
+before_switch sections.Shape is = refl
+before_switch sections.Pick is = refl
 before_switch Declarations is = refl
 before_switch Steps is = absurd cc
 before_switch Done is = absurd cc
 
 -- ---- declarations
 
-pub shaped : (s : State) (shape : Shape) (x : Section) → IsDraft s → has_steps s.section ≡ false → IsShape shape.rows shape.width → IsHash shape.hash → IsDraft (record s { section = x; shape = shape })
+pub shaped : (s : State) (shape : Shape) (x : Section) → IsDraft s → has_steps s.section ≡ false → IsShape shape.rows shape.width → IsHashRange shape.hash → IsDraft (record s { section = x; shape = shape })
 shaped s shape x ok early fits hash = record {
   scenario = record {
     shape = fits;
@@ -79,7 +80,7 @@ shaped s shape x ok early fits hash = record {
   no_steps = λ _. ok.no_steps early;
 }
 
-pub picked : (s : State) (p : Pick) (x : Section) → IsDraft s → has_steps s.section ≡ false → IsPick p → IsDraft (record s { section = x; pick = p })
+pub picked : (s : State) (p : Pick) (x : Section) → IsDraft s → has_steps s.section ≡ false → IsPickRange p → IsDraft (record s { section = x; pick = p })
 picked s p x ok early pick = record {
   scenario = record {
     shape = ok.scenario.shape;

@@ -18,15 +18,16 @@ use Rattle.lg_model.specs.declared.scenario.Ask.{Ask}
 use Rattle.lg_model.specs.Placing.{Shape}
 use Rattle.lg_model.specs.Scenario.{IsFlow, IsStep, IsAsk, no_flow}
 use Rattle.scenario_lines.specs.declared.section.Section.{Section}
-use Rattle.scenario_lines.specs.declared.section.Section.TheVariants.{First, Second, Third, Declarations, Steps, Done}
+use Rattle.scenario_lines.specs.declared.section.Section.TheVariants as sections
+use Rattle.scenario_lines.specs.declared.section.Section.TheVariants.{Declarations, Steps, Done}
 use Rattle.scenario_lines.specs.declared.section.Keyword.{Keyword}
 use Rattle.scenario_lines.specs.declared.section.Keyword.TheVariants as words
-use Rattle.scenario_lines.specs.Sections.{has_place, is_first}
+use Rattle.scenario_lines.specs.Sections.{admits, is_first}
 use Rattle.text_out.specs.Words.{Words}
 use Rattle.scenario_lines.specs.Spelling.{size, shape_line_words, pick_line_words, key_parts, host_words, host_names, switch_words, path_words, flow_words, byte_of, step_words, ask_words}
 use Rattle.scenario_lines.specs.Line.{linked, linked_at, no_letters, unlinked}
 use Rattle.scenario_lines.specs.Draft.{State, IsDraft}
-use Rattle.scenario_lines.specs.Weight.{frame_size, link_size, weight, keyword_size, first_size}
+use Rattle.scenario_lines.specs.PrintedLen.{frame_size, link_size, printed_len, keyword_size, first_size}
 use Rattle.scenario_lines.proofs.ReadableLemmas.{names_linked}
 
 -- ---- the words of a line
@@ -107,99 +108,99 @@ asks_by_flow now flows f asks is ok = sum_same (λ q. size (ask_words now q)) (�
 -- ---- the first lines and the last
 
 frame_first : (x : Section) (shape : Shape) (pick : Pick) → is_first x ≡ true → frame_size x shape pick ≡ 0
-frame_first First shape pick is = refl
-frame_first Second shape pick is = absurd cc
-frame_first Third shape pick is = absurd cc
+frame_first sections.Version shape pick is = refl
+frame_first sections.Shape shape pick is = absurd cc
+frame_first sections.Pick shape pick is = absurd cc
 frame_first Declarations shape pick is = absurd cc
 frame_first Steps shape pick is = absurd cc
 frame_first Done shape pick is = absurd cc
 
-pub started_weighs : (s : State) → is_first s.section ≡ true → weight (record s { section = Second }) ≡ weight s + 11
-unfolding weight
+pub started_weighs : (s : State) → is_first s.section ≡ true → printed_len (record s { section = sections.Shape }) ≡ printed_len s + 11
+unfolding printed_len
 started_weighs s is = omega (arith, frame_first s.section s.shape s.pick is)
 
-frame_second : (x : Section) (shape : Shape) (pick : Pick) → has_place x words.Shape ≡ true → frame_size x shape pick ≡ 11
-frame_second First shape pick is = absurd cc
-frame_second Second shape pick is = refl
-frame_second Third shape pick is = absurd cc
+frame_second : (x : Section) (shape : Shape) (pick : Pick) → admits x words.Shape ≡ true → frame_size x shape pick ≡ 11
+frame_second sections.Version shape pick is = absurd cc
+frame_second sections.Shape shape pick is = refl
+frame_second sections.Pick shape pick is = absurd cc
 frame_second Declarations shape pick is = absurd cc
 frame_second Steps shape pick is = absurd cc
 frame_second Done shape pick is = absurd cc
 
-pub shape_weighs : (s : State) (shape : Shape) → has_place s.section words.Shape ≡ true → weight (record s { section = Third; shape = shape }) ≡ weight s + size (shape_line_words shape)
-unfolding weight
+pub shape_weighs : (s : State) (shape : Shape) → admits s.section words.Shape ≡ true → printed_len (record s { section = sections.Pick; shape = shape }) ≡ printed_len s + size (shape_line_words shape)
+unfolding printed_len
 shape_weighs s shape is = omega (arith, frame_second s.section s.shape s.pick is)
 
-frame_third : (x : Section) (shape : Shape) (pick : Pick) → has_place x words.Pick ≡ true → frame_size x shape pick ≡ 11 + size (shape_line_words shape)
-frame_third First shape pick is = absurd cc
-frame_third Second shape pick is = absurd cc
-frame_third Third shape pick is = refl
+frame_third : (x : Section) (shape : Shape) (pick : Pick) → admits x words.Pick ≡ true → frame_size x shape pick ≡ 11 + size (shape_line_words shape)
+frame_third sections.Version shape pick is = absurd cc
+frame_third sections.Shape shape pick is = absurd cc
+frame_third sections.Pick shape pick is = refl
 frame_third Declarations shape pick is = absurd cc
 frame_third Steps shape pick is = absurd cc
 frame_third Done shape pick is = absurd cc
 
-pub pick_weighs : (s : State) (pick : Pick) → has_place s.section words.Pick ≡ true → weight (record s { section = Declarations; pick = pick }) ≡ weight s + size (pick_line_words pick)
-unfolding weight
+pub pick_weighs : (s : State) (pick : Pick) → admits s.section words.Pick ≡ true → printed_len (record s { section = Declarations; pick = pick }) ≡ printed_len s + size (pick_line_words pick)
+unfolding printed_len
 pick_weighs s pick is = omega (arith, frame_third s.section s.shape s.pick is)
 
 -- A section in which steps may come.
 abbrev pub IsOpen : Section → Type 0
 IsOpen x = (shape : Shape) (pick : Pick) → frame_size x shape pick ≡ frame_size Steps shape pick
 
-pub open_packet : (x : Section) → has_place x words.Packet ≡ true → IsOpen x
-open_packet First is shape pick = absurd cc
-open_packet Second is shape pick = absurd cc
-open_packet Third is shape pick = absurd cc
+pub open_packet : (x : Section) → admits x words.Packet ≡ true → IsOpen x
+open_packet sections.Version is shape pick = absurd cc
+open_packet sections.Shape is shape pick = absurd cc
+open_packet sections.Pick is shape pick = absurd cc
 open_packet Declarations is shape pick = refl
 open_packet Steps is shape pick = refl
 open_packet Done is shape pick = absurd cc
 
-pub open_end : (x : Section) → has_place x words.End ≡ true → IsOpen x
-open_end First is shape pick = absurd cc
-open_end Second is shape pick = absurd cc
-open_end Third is shape pick = absurd cc
+pub open_end : (x : Section) → admits x words.End ≡ true → IsOpen x
+open_end sections.Version is shape pick = absurd cc
+open_end sections.Shape is shape pick = absurd cc
+open_end sections.Pick is shape pick = absurd cc
 open_end Declarations is shape pick = refl
 open_end Steps is shape pick = refl
 open_end Done is shape pick = absurd cc
 
-pub open_release : (x : Section) → has_place x words.Release ≡ true → IsOpen x
-open_release First is shape pick = absurd cc
-open_release Second is shape pick = absurd cc
-open_release Third is shape pick = absurd cc
+pub open_release : (x : Section) → admits x words.Release ≡ true → IsOpen x
+open_release sections.Version is shape pick = absurd cc
+open_release sections.Shape is shape pick = absurd cc
+open_release sections.Pick is shape pick = absurd cc
 open_release Declarations is shape pick = refl
 open_release Steps is shape pick = refl
 open_release Done is shape pick = absurd cc
 
-pub open_ask : (x : Section) → has_place x words.Ask ≡ true → IsOpen x
-open_ask First is shape pick = absurd cc
-open_ask Second is shape pick = absurd cc
-open_ask Third is shape pick = absurd cc
+pub open_ask : (x : Section) → admits x words.Ask ≡ true → IsOpen x
+open_ask sections.Version is shape pick = absurd cc
+open_ask sections.Shape is shape pick = absurd cc
+open_ask sections.Pick is shape pick = absurd cc
 open_ask Declarations is shape pick = refl
 open_ask Steps is shape pick = refl
 open_ask Done is shape pick = absurd cc
 
-pub open_done : (x : Section) → has_place x words.Done ≡ true → IsOpen x
-open_done First is shape pick = absurd cc
-open_done Second is shape pick = absurd cc
-open_done Third is shape pick = absurd cc
+pub open_done : (x : Section) → admits x words.Done ≡ true → IsOpen x
+open_done sections.Version is shape pick = absurd cc
+open_done sections.Shape is shape pick = absurd cc
+open_done sections.Pick is shape pick = absurd cc
 open_done Declarations is shape pick = refl
 open_done Steps is shape pick = refl
 open_done Done is shape pick = absurd cc
 
-pub done_weighs : (s : State) → has_place s.section words.Done ≡ true → weight (record s { section = Done }) ≡ weight s + 5
-unfolding weight
+pub done_weighs : (s : State) → admits s.section words.Done ≡ true → printed_len (record s { section = Done }) ≡ printed_len s + 5
+unfolding printed_len
 done_weighs s is = omega (arith, open_done s.section is s.shape s.pick)
 
 -- ---- declarations
 
-pub host_weighs : (s : State) (hosts : List HostLine) (h : HostLine) → IsDraft s → hosts ≡ s.hosts ++ h ∷ [] → length h.letters ≡ 0 → weight (record s { hosts = hosts }) ≡ weight s + size (host_words h)
-unfolding weight
+pub host_weighs : (s : State) (hosts : List HostLine) (h : HostLine) → IsDraft s → hosts ≡ s.hosts ++ h ∷ [] → length h.letters ≡ 0 → printed_len (record s { hosts = hosts }) ≡ printed_len s + size (host_words h)
+unfolding printed_len
 host_weighs s hosts h ok is none =
     let link : link_size h ≡ 0 = rw none refl in
     omega (arith, sum_more (λ g. size (host_words g)) hosts s.hosts h is, sum_more link_size hosts s.hosts h is, flows_by_host hosts s.hosts h s.switches s.flows is ok.scenario.flows, link)
 
-pub switch_weighs : (s : State) (switches : List ℕ) (n : ℕ) → IsDraft s → switches ≡ s.switches ++ n ∷ [] → weight (record s { switches = switches }) ≡ weight s + size (switch_words n)
-unfolding weight
+pub switch_weighs : (s : State) (switches : List ℕ) (n : ℕ) → IsDraft s → switches ≡ s.switches ++ n ∷ [] → printed_len (record s { switches = switches }) ≡ printed_len s + size (switch_words n)
+unfolding printed_len
 switch_weighs s switches n ok is =
     omega (
       arith,
@@ -208,8 +209,8 @@ switch_weighs s switches n ok is =
       sum_same (λ t. size (step_words s.flows switches t)) (λ t. size (step_words s.flows s.switches t)) s.steps (λ k d lt. step_by_switch s.flows switches s.switches n (get_or s.steps k d) is (ok.scenario.steps k d lt)),
     )
 
-pub flow_weighs : (s : State) (flows : List Flow) (f : Flow) → IsDraft s → flows ≡ s.flows ++ f ∷ [] → weight (record s { flows = flows }) ≡ weight s + size (flow_words s.hosts s.switches f)
-unfolding weight
+pub flow_weighs : (s : State) (flows : List Flow) (f : Flow) → IsDraft s → flows ≡ s.flows ++ f ∷ [] → printed_len (record s { flows = flows }) ≡ printed_len s + size (flow_words s.hosts s.switches f)
+unfolding printed_len
 flow_weighs s flows f ok is =
     omega (
       arith,
@@ -220,12 +221,12 @@ flow_weighs s flows f ok is =
 
 -- ---- steps and asks
 
-pub step_weighs : (s : State) (ts : List Step) (t : Step) → IsOpen s.section → ts ≡ s.steps ++ t ∷ [] → weight (record s { section = Steps; steps = ts }) ≡ weight s + size (step_words s.flows s.switches t)
-unfolding weight
+pub step_weighs : (s : State) (ts : List Step) (t : Step) → IsOpen s.section → ts ≡ s.steps ++ t ∷ [] → printed_len (record s { section = Steps; steps = ts }) ≡ printed_len s + size (step_words s.flows s.switches t)
+unfolding printed_len
 step_weighs s ts t free is = omega (arith, free s.shape s.pick, sum_more (λ u. size (step_words s.flows s.switches u)) ts s.steps t is)
 
-pub ask_weighs : (s : State) (asks : List Ask) (q : Ask) → has_place s.section words.Ask ≡ true → asks ≡ s.asks ++ q ∷ [] → weight (record s { section = Steps; asks = asks }) ≡ weight s + size (ask_words s.flows q)
-unfolding weight
+pub ask_weighs : (s : State) (asks : List Ask) (q : Ask) → admits s.section words.Ask ≡ true → asks ≡ s.asks ++ q ∷ [] → printed_len (record s { section = Steps; asks = asks }) ≡ printed_len s + size (ask_words s.flows q)
+unfolding printed_len
 ask_weighs s asks q free is = omega (arith, open_ask s.section free s.shape s.pick, sum_more (λ r. size (ask_words s.flows r)) asks s.asks q is)
 
 -- ---- letters
@@ -263,8 +264,8 @@ link_sums hosts at ls (Some h) is free =
       links = omega (arith, linked_sum link_size hosts at ls h is, no_link h (eqb (length h.letters) 0) refl free, link_most (record h { letters = ls }) (eqb (length ls) 0) refl);
     }
 
-pub link_weighs : (s : State) (hosts : List HostLine) (at : ℕ) (ls : List Letter) → hosts ≡ linked s.hosts at ls → unlinked s.hosts at ≡ Ok tt → weight (record s { hosts = hosts }) ≤ weight s + (6 + length (decimal (slice_index (host_names s.hosts) at)) + (length ls + 1))
-unfolding weight unlinked
+pub link_weighs : (s : State) (hosts : List HostLine) (at : ℕ) (ls : List Letter) → hosts ≡ linked s.hosts at ls → unlinked s.hosts at ≡ Ok tt → printed_len (record s { hosts = hosts }) ≤ printed_len s + (6 + length (decimal (slice_index (host_names s.hosts) at)) + (length ls + 1))
+unfolding printed_len unlinked
 link_weighs s hosts at ls is free =
     let sums : Linked s.hosts hosts (slice_index (host_names s.hosts) at) (length ls) = rw is (link_sums s.hosts at ls (slice_get s.hosts at) refl free) in
     omega (arith, sums.names, sums.links, flows_linked hosts s.hosts s.switches s.flows (ap host_names is ∙ names_linked s.hosts at ls))

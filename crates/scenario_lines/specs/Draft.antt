@@ -10,7 +10,7 @@ use Rattle.lg_model.specs.declared.scenario.Hash.TheVariants.{Ports}
 use Rattle.lg_model.specs.Placing.{Shape}
 use Rattle.lg_model.specs.Scenario.{Scenario, IsScenario}
 use Rattle.scenario_lines.specs.declared.section.Section.{Section}
-use Rattle.scenario_lines.specs.declared.section.Section.TheVariants.{First}
+use Rattle.scenario_lines.specs.declared.section.Section.TheVariants as sections
 use Rattle.scenario_lines.specs.Sections.{has_steps}
 use Rattle.scenario_lines.specs.Readable.{IsReadable}
 use Rattle.scenario_lines.specs.declared.draft.Draft.{Draft}
@@ -33,7 +33,7 @@ scenario_of s = record { shape = s.shape; pick = s.pick; hosts = s.hosts; switch
 -- Before the first line: nothing is declared. The shape is the least one until the second line says it, and switches
 -- pick by turns until the third line says how.
 abbrev pub start : State
-start = record { section = First; shape = record { rows = 1; width = 1; hash = Ports }; pick = Turns; hosts = []; switches = []; flows = []; steps = []; asks = [] }
+start = record { section = sections.Version; shape = record { rows = 1; width = 1; hash = Ports }; pick = Turns; hosts = []; switches = []; flows = []; steps = []; asks = [] }
 
 -- What a draft says, without where it lies in memory.
 abbrev pub view : Draft → State
@@ -46,5 +46,5 @@ pub record IsDraft (s : State) : Type 0 where
   pub lines : IsReadable (scenario_of s)
   pub no_steps : has_steps s.section ≡ false → s.steps ≡ []
 
-abbrev pub Fits : Draft → Type 0
-Fits d = IsDraft (view d)
+abbrev pub FitsSoFar : Draft → Type 0
+FitsSoFar d = IsDraft (view d)

@@ -1,10 +1,11 @@
--- The fields of a line: what the words from some place on say, and the words behind, or why they say nothing.
+-- The fields of a line: what the words from a position on say, and the words after them, or why they say nothing.
 use Rattle.std.specs.Prelude.{◌≡◌, ℕ, Bool, true, List, [], ◌∷◌, ◌++◌, length, Option, Some, None, Result, Ok, Err, codes, nat_le, nat_lt, ◌==◌, ◌&&◌, ◌||◌, suc, zero, map, if◌then◌else◌}
 use Rattle.std.specs.List.{list_any, list_all, position}
 use Rattle.std.specs.Str.{bytes_eq}
 use Rattle.flow_key.specs.declared.key.FlowKey.{FlowKey}
 use Rattle.flow_key.specs.KeyText.{address_of}
 use Rattle.flow_key.specs.Words.{number_to}
+use Rattle.lg_model.specs.declared.limits.TheConstants.{MOST_HOPS, MOST_PACKETS, MOST_ENDS, MOST_LETTERS}
 use Rattle.lg_model.specs.declared.scenario.Hash.{Hash}
 use Rattle.lg_model.specs.declared.scenario.Hash.TheVariants as hashes
 use Rattle.lg_model.specs.declared.scenario.Pick.{Pick}
@@ -29,20 +30,20 @@ abbrev pub ◌>>=◌ : {A B : Type 0} → Result A Why → (A → Result B Why) 
 (Ok x) >>= f = f x
 (Err e) >>= f = Err e
 
--- A fault is the why of the reading; want of memory says nothing of it.
+-- A fault is the why of the reading; running out of memory says nothing of it.
 abbrev pub Fails : {Y : Type 0} → LineFault → Result Y Why → Type 0
 Fails faults.Memory read = Unit {0}
 Fails (faults.Bad w) read = read ≡ Err w
 
 -- What a function returned, seen by `view`, is what reading gives, unless memory ran out.
-abbrev pub Gives : {X Y : Type 0} → (X → Y) → Result X LineFault → Result Y Why → Type 0
-Gives view (Ok x) read = read ≡ Ok (view x)
-Gives view (Err e) read = Fails e read
+abbrev pub GivesField : {X Y : Type 0} → (X → Y) → Result X LineFault → Result Y Why → Type 0
+GivesField view (Ok x) read = read ≡ Ok (view x)
+GivesField view (Err e) read = Fails e read
 
 -- The same of a call that leaves a state.
-abbrev pub Leaves : {X : Type 0} → Result X LineFault → State → Result State Why → Type 0
-Leaves (Ok x) new read = read ≡ Ok new
-Leaves (Err e) new read = Fails e read
+abbrev pub LeavesState : {X : Type 0} → Result X LineFault → State → Result State Why → Type 0
+LeavesState (Ok x) new read = read ≡ Ok new
+LeavesState (Err e) new read = Fails e read
 
 -- ---- words and numbers
 
@@ -60,57 +61,57 @@ word text [] = Err WordCount
 word text (w ∷ ws) = if bytes_eq w text then Ok ws else Err BadWord
 
 -- No word more.
-unfoldable pub ended : Words → Result (Unit {0}) Why
-ended [] = Ok tt
-ended (w ∷ ws) = Err WordCount
+unfoldable pub no_more : Words → Result (Unit {0}) Why
+no_more [] = Ok tt
+no_more (w ∷ ws) = Err WordCount
 
 -- ---- names and limits
 
 -- A name that none of these is.
-unfoldable pub fresh : List ℕ → ℕ → Result (Unit {0}) Why
-fresh names n = if list_any (λ m. m == n) names then Err Repeated else Ok tt
+unfoldable pub fresh_name : List ℕ → ℕ → Result (Unit {0}) Why
+fresh_name names n = if list_any (λ m. m == n) names then Err Repeated else Ok tt
 
 -- A name that one of these is.
-unfoldable pub known : List ℕ → ℕ → Result (Unit {0}) Why
-known names n = if list_any (λ m. m == n) names then Ok tt else Err UnknownName
+unfoldable pub known_name : List ℕ → ℕ → Result (Unit {0}) Why
+known_name names n = if list_any (λ m. m == n) names then Ok tt else Err UnknownName
 
 -- The position of a name.
-unfoldable pub place : List ℕ → ℕ → Result ℕ Why
-place names n = placed (position (λ m. m == n) names) where
-  placed : Option ℕ → Result ℕ Why
-  placed None = Err UnknownName
-  placed (Some i) = Ok i
+unfoldable pub position_of : List ℕ → ℕ → Result ℕ Why
+position_of names n = positioned (position (λ m. m == n) names) where
+  positioned : Option ℕ → Result ℕ Why
+  positioned None = Err UnknownName
+  positioned (Some i) = Ok i
 
 -- A name that no host has.
 unfoldable pub fresh_host : List HostLine → ℕ → Result (Unit {0}) Why
 fresh_host hosts n = if list_any (λ h. h.name == n) hosts then Err Repeated else Ok tt
 
 -- The position of a host's name.
-unfoldable pub host_place : List HostLine → ℕ → Result ℕ Why
-host_place hosts n = host_placed (position (λ h. h.name == n) hosts) where
-  host_placed : Option ℕ → Result ℕ Why
-  host_placed None = Err UnknownName
-  host_placed (Some i) = Ok i
+unfoldable pub host_position : List HostLine → ℕ → Result ℕ Why
+host_position hosts n = host_positioned (position (λ h. h.name == n) hosts) where
+  host_positioned : Option ℕ → Result ℕ Why
+  host_positioned None = Err UnknownName
+  host_positioned (Some i) = Ok i
 
 -- A name that no flow has.
 unfoldable pub fresh_flow : List Flow → ℕ → Result (Unit {0}) Why
-fresh_flow flows n = unplaced (position (λ m. m == n) (names_of flows)) where
-  unplaced : Option ℕ → Result (Unit {0}) Why
-  unplaced None = Ok tt
-  unplaced (Some i) = Err Repeated
+fresh_flow flows n = absent (position (λ m. m == n) (names_of flows)) where
+  absent : Option ℕ → Result (Unit {0}) Why
+  absent None = Ok tt
+  absent (Some i) = Err Repeated
 
--- One more fits where at most so many may be.
+-- One more fits where at most `most` may be.
 unfoldable pub room : ℕ → ℕ → Result (Unit {0}) Why
-room most held = if nat_lt held most then Ok tt else Err TooMany
+room most count = if nat_lt count most then Ok tt else Err TooMany
 
--- So many fit where at most so many may be.
+-- This many fit where at most `most` may be.
 unfoldable pub room_to : ℕ → ℕ → Result (Unit {0}) Why
-room_to most held = if nat_le held most then Ok tt else Err TooMany
+room_to most count = if nat_le count most then Ok tt else Err TooMany
 
 -- Each of the first n switches may end an epoch more.
 abbrev pub all_room : List Step → ℕ → Bool
 all_room steps zero = true
-all_room steps (suc n) = nat_lt (ends_of n steps) 65535 && all_room steps n
+all_room steps (suc n) = nat_lt (ends_of n steps) MOST_ENDS && all_room steps n
 
 unfoldable pub room_for_all : List Step → ℕ → Result (Unit {0}) Why
 room_for_all steps n = if all_room steps n then Ok tt else Err TooMany
@@ -145,13 +146,13 @@ key ws = do
 
 -- A word that names the next switch of a path, which isn't in it yet.
 unfoldable pub hop : List ℕ → List ℕ → List ℕ → Result ℕ Why
-hop switches sofar w = if length sofar == 16 then Err BadPath else (do
+hop switches sofar w = if length sofar == MOST_HOPS then Err BadPath else (do
   x ← number 0 65535 (w ∷ [])
-  at ← place switches x.0
-  new ← fresh sofar at
+  at ← position_of switches x.0
+  new ← fresh_name sofar at
   Ok at)
 
--- The positions of one to sixteen switches, each once, behind those so far, up to the end of the line.
+-- The positions of one to sixteen switches, each once, after those so far, up to the end of the line.
 unfoldable pub path : List ℕ → List ℕ → Words → Result (List ℕ) Why
 path switches sofar [] = if length sofar == 0 then Err WordCount else Ok sofar
 path switches sofar (w ∷ ws) = do
@@ -185,14 +186,14 @@ letter_of b =
     if b == 97 then letters.LoseReply else (
     if b == 114 then letters.Twice else letters.Hold)))
 
--- A word of 1 to 4096 letters.
+-- A word of 1 to 4,096 letters.
 unfoldable pub letters_word : Words → Result (List Letter × Words) Why
 letters_word [] = Err WordCount
-letters_word (w ∷ ws) = if nat_le 1 (length w) && nat_le (length w) 4096 && list_all is_letter w then Ok (map letter_of w, ws) else Err BadLetters
+letters_word (w ∷ ws) = if nat_le 1 (length w) && nat_le (length w) MOST_LETTERS && list_all is_letter w then Ok (map letter_of w, ws) else Err BadLetters
 
--- ---- what stands behind the size of a packet
+-- ---- the rest of a `packet` line after the size
 
--- One delay for each hop, behind those so far.
+-- One delay for each hop, after those so far.
 unfoldable pub delays : List ℕ → List ℕ → Words → Result (List ℕ × Words) Why
 delays [] sofar ws = Ok (sofar, ws)
 delays (hop ∷ hops) sofar ws = do
@@ -202,14 +203,14 @@ delays (hop ∷ hops) sofar ws = do
 -- `burst N`, or nothing, which is 1.
 unfoldable pub burst : Words → Result (ℕ × Words) Why
 burst [] = Ok (1, [])
-burst (w ∷ ws) = if bytes_eq w (codes "burst") then number 1 1000000 ws else Ok (1, w ∷ ws)
+burst (w ∷ ws) = if bytes_eq w (codes "burst") then number 1 MOST_PACKETS ws else Ok (1, w ∷ ws)
 
--- The end of the line behind a fate.
+-- The end of the line after a fate.
 unfoldable pub fate_ended : Words → Result (Unit {0}) Why
 fate_ended [] = Ok tt
 fate_ended (w ∷ ws) = if bytes_eq w (codes "burst") then Err BadWord else Err WordCount
 
--- The fate of a packet over so many hops, and the end of the line.
+-- The fate of a packet over this many hops, and the end of the line.
 unfoldable pub fate : ℕ → Words → Result Fate Why
 fate hops [] = Ok fates.Straight
 fate hops (w ∷ ws) =

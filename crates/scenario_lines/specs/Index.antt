@@ -5,4 +5,4 @@ use Rattle.std.specs.Prelude.{◌≡◌, ℕ, ◌<◌, List, length, slice_index
 pub record IsIndexed (names at : List ℕ) : Type 0 where
   pub few : length names < 65536
   pub known : (i : ℕ) → i < length names → slice_index names i < length at
-  pub place : (i : ℕ) → i < length names → slice_index at (slice_index names i) ≡ i
+  pub stands : (i : ℕ) → i < length names → slice_index at (slice_index names i) ≡ i

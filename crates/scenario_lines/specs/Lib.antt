@@ -7,4 +7,4 @@ pub mod Readable
 pub mod Draft
 pub mod Fields
 pub mod Line
-pub mod Weight
+pub mod PrintedLen

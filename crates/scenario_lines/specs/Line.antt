@@ -1,36 +1,38 @@
--- What each line means: the words that it has, from left to right, and the state behind it, or the first why.
+-- What each line means: the words that it has, from left to right, and the state after it, or the first why.
 use Rattle.std.specs.Prelude.{ℕ, Bool, true, List, [], ◌∷◌, ◌++◌, length, Option, Some, None, Result, Ok, Err, codes, ◌==◌, ◌+◌, if◌then◌else◌, slice_get, slice_set}
 use Rattle.std.specs.Str.{bytes_eq}
 use Rattle.flow_key.specs.Words.{words_at}
+use Rattle.lg_model.specs.declared.limits.TheConstants.{MOST_ROWS, MOST_WIDTH, MOST_HOSTS, MOST_SWITCHES, MOST_FLOWS, MOST_PACKETS, MOST_ENDS, MOST_ASKS}
 use Rattle.lg_model.specs.declared.scenario.Letter.{Letter}
 use Rattle.lg_model.specs.declared.scenario.HostLine.{HostLine}
 use Rattle.lg_model.specs.declared.scenario.Step.TheVariants as steps
 use Rattle.lg_model.specs.Scenario.{packet_count}
 use Rattle.scenario_lines.specs.declared.why.Why.{Why}
 use Rattle.scenario_lines.specs.declared.why.Why.TheVariants.{Version, OutOfPlace, UnknownWord, WordCount, Repeated, UnknownName}
-use Rattle.scenario_lines.specs.declared.section.Section.TheVariants.{Second, Third, Declarations, Steps, Done}
+use Rattle.scenario_lines.specs.declared.section.Section.TheVariants as sections
+use Rattle.scenario_lines.specs.declared.section.Section.TheVariants.{Declarations, Steps, Done}
 use Rattle.scenario_lines.specs.declared.section.Keyword.{Keyword}
 use Rattle.scenario_lines.specs.declared.section.Keyword.TheVariants as words
-use Rattle.scenario_lines.specs.Sections.{is_first, keyword_of, has_place}
+use Rattle.scenario_lines.specs.Sections.{is_first, keyword_of, admits}
 use Rattle.scenario_lines.specs.Counts.{names_of, path_at, ends_of}
 use Rattle.text_out.specs.Words.{Words}
 use Rattle.scenario_lines.specs.Draft.{State}
-use Rattle.scenario_lines.specs.Fields.{◌>>=◌, number, word, ended, fresh, known, place, fresh_host, host_place, fresh_flow, room, room_to, room_for_all, key, path, hash, pick, letters_word, delays, burst, fate}
+use Rattle.scenario_lines.specs.Fields.{◌>>=◌, number, word, no_more, fresh_name, known_name, position_of, fresh_host, host_position, fresh_flow, room, room_to, room_for_all, key, path, hash, pick, letters_word, delays, burst, fate}
 
 -- ---- the second and the third line
 
 unfoldable pub shape_line : State → Words → Result State Why
 shape_line s ws = do
-  rows ← number 1 8 ws
-  width ← number 1 4096 rows.1
+  rows ← number 1 MOST_ROWS ws
+  width ← number 1 MOST_WIDTH rows.1
   hashed ← hash width.1
-  end ← ended hashed.1
-  Ok (record s { section = Third; shape = record { rows = rows.0; width = width.0; hash = hashed.0 } })
+  end ← no_more hashed.1
+  Ok (record s { section = sections.Pick; shape = record { rows = rows.0; width = width.0; hash = hashed.0 } })
 
 unfoldable pub pick_line : State → Words → Result State Why
 pick_line s ws = do
   x ← pick ws
-  end ← ended x.1
+  end ← no_more x.1
   Ok (record s { section = Declarations; pick = x.0 })
 
 -- ---- declarations
@@ -39,16 +41,16 @@ unfoldable pub host_line : State → Words → Result State Why
 host_line s ws = do
   h ← number 0 65535 ws
   new ← fresh_host s.hosts h.0
-  end ← ended h.1
-  fits ← room 64 (length s.hosts)
+  end ← no_more h.1
+  fits ← room MOST_HOSTS (length s.hosts)
   Ok (record s { hosts = s.hosts ++ record { name = h.0; letters = [] } ∷ [] })
 
 unfoldable pub switch_line : State → Words → Result State Why
 switch_line s ws = do
   x ← number 0 65535 ws
-  new ← fresh s.switches x.0
-  end ← ended x.1
-  fits ← room 64 (length s.switches)
+  new ← fresh_name s.switches x.0
+  end ← no_more x.1
+  fits ← room MOST_SWITCHES (length s.switches)
   Ok (record s { switches = s.switches ++ x.0 ∷ [] })
 
 unfoldable pub flow_line : State → Words → Result State Why
@@ -58,10 +60,10 @@ flow_line s ws = do
   k ← key f.1
   h ← word (codes "host") k.1
   host ← number 0 65535 h
-  at ← host_place s.hosts host.0
+  at ← host_position s.hosts host.0
   p ← word (codes "path") host.1
   hops ← path s.switches [] p
-  fits ← room 4096 (length s.flows)
+  fits ← room MOST_FLOWS (length s.flows)
   Ok (record s { flows = s.flows ++ record { name = f.0; key = k.0; host_at = at; path = hops } ∷ [] })
 
 -- The host at this position has no letters yet.
@@ -83,10 +85,10 @@ linked hosts at ls = linked_at hosts at ls (slice_get hosts at)
 unfoldable pub link_line : State → Words → Result State Why
 link_line s ws = do
   h ← number 0 65535 ws
-  at ← host_place s.hosts h.0
+  at ← host_position s.hosts h.0
   new ← unlinked s.hosts at
   x ← letters_word h.1
-  end ← ended x.1
+  end ← no_more x.1
   Ok (record s { hosts = linked s.hosts at x.0 })
 
 -- ---- steps
@@ -94,25 +96,25 @@ link_line s ws = do
 unfoldable pub packet_line : State → Words → Result State Why
 packet_line s ws = do
   f ← number 0 65535 ws
-  at ← place (names_of s.flows) f.0
+  at ← position_of (names_of s.flows) f.0
   size ← number 0 65535 f.1
   d ← delays (path_at s.flows at) [] size.1
   b ← burst d.1
   x ← fate (length (path_at s.flows at)) b.1
-  fits ← room_to 1000000 (packet_count s.steps + b.0)
+  fits ← room_to MOST_PACKETS (packet_count s.steps + b.0)
   Ok (record s { section = Steps; steps = s.steps ++ steps.Packet at size.0 d.0 b.0 x ∷ [] })
 
 unfoldable pub end_one : State → Words → Result State Why
 end_one s ws = do
   x ← number 0 65535 ws
-  at ← place s.switches x.0
-  end ← ended x.1
-  fits ← room 65535 (ends_of at s.steps)
+  at ← position_of s.switches x.0
+  end ← no_more x.1
+  fits ← room MOST_ENDS (ends_of at s.steps)
   Ok (record s { section = Steps; steps = s.steps ++ steps.End at ∷ [] })
 
 unfoldable pub end_all : State → Words → Result State Why
 end_all s ws = do
-  end ← ended ws
+  end ← no_more ws
   fits ← room_for_all s.steps (length s.switches)
   Ok (record s { section = Steps; steps = s.steps ++ steps.EndAll ∷ [] })
 
@@ -122,23 +124,23 @@ end_line s (w ∷ ws) = if bytes_eq w (codes "all") then end_all s ws else end_o
 
 unfoldable pub release_line : State → Words → Result State Why
 release_line s ws = do
-  end ← ended ws
+  end ← no_more ws
   Ok (record s { section = Steps; steps = s.steps ++ steps.Release ∷ [] })
 
 unfoldable pub ask_line : State → Words → Result State Why
 ask_line s ws = do
   f ← number 0 65535 ws
-  at ← place (names_of s.flows) f.0
+  at ← position_of (names_of s.flows) f.0
   x ← number 0 65535 f.1
-  here ← known s.switches x.0
+  here ← known_name s.switches x.0
   e ← number 0 4294967295 x.1
-  end ← ended e.1
-  fits ← room 10000 (length s.asks)
+  end ← no_more e.1
+  fits ← room MOST_ASKS (length s.asks)
   Ok (record s { section = Steps; asks = s.asks ++ record { flow_at = at; switch = x.0; epoch = e.0 } ∷ [] })
 
 unfoldable pub done_line : State → Words → Result State Why
 done_line s ws = do
-  end ← ended ws
+  end ← no_more ws
   Ok (record s { section = Done })
 
 -- ---- the table
@@ -159,7 +161,7 @@ form_of words.Done s ws = done_line s ws
 
 abbrev pub known_line : Option Keyword → State → Words → Result State Why
 known_line None s ws = Err UnknownWord
-known_line (Some k) s ws = if has_place s.section k then form_of k s ws else Err OutOfPlace
+known_line (Some k) s ws = if admits s.section k then form_of k s ws else Err OutOfPlace
 
 -- ---- lines
 
@@ -168,14 +170,14 @@ words_line s [] = Err UnknownWord
 words_line s (w ∷ ws) = known_line (keyword_of w) s ws
 
 abbrev pub first_line : State → List ℕ → Result State Why
-first_line s line = if bytes_eq line (codes "guardian 1") then Ok (record s { section = Second }) else Err Version
+first_line s line = if bytes_eq line (codes "guardian 1") then Ok (record s { section = sections.Shape }) else Err Version
 
 -- A line that is empty or begins with `#` is skipped.
 abbrev pub is_skipped : List ℕ → Bool
 is_skipped [] = true
 is_skipped (c ∷ cs) = c == 35
 
--- The state behind a line, given without its end, or why there is none.
+-- The state after a line, given without its end, or why there is none.
 unfoldable pub line_of : State → List ℕ → Result State Why
 line_of s line =
     if is_skipped line then Ok s else (if is_first s.section then first_line s line else words_line s (words_at 32 line))

@@ -2,6 +2,7 @@
 use Rattle.std.specs.Prelude.{◌≡◌, ◌≢◌, ℕ, ◌^◌, ◌<◌, ◌≤◌, true, List, length, All, ◌==◌}
 use Rattle.std.specs.List.{AllPairs, list_any}
 use Rattle.flow_key.specs.KeyText.{Fits}
+use Rattle.lg_model.specs.declared.limits.TheConstants.{MOST_FLOWS, MOST_ASKS, MOST_LETTERS}
 use Rattle.lg_model.specs.declared.scenario.Hash.{Hash}
 use Rattle.lg_model.specs.declared.scenario.Hash.TheVariants as hashes
 use Rattle.lg_model.specs.declared.scenario.Pick.{Pick}
@@ -20,19 +21,19 @@ abbrev pub AreApart : List ℕ → Type 0
 AreApart names = AllPairs (λ m n. m ≢ n) names
 
 -- A seed has 64 bits.
-abbrev pub IsHash : Hash → Type 0
-IsHash hashes.Ports = Unit {0}
-IsHash (hashes.Seed n) = n < 2 ^ 64
+abbrev pub IsHashRange : Hash → Type 0
+IsHashRange hashes.Ports = Unit {0}
+IsHashRange (hashes.Seed n) = n < 2 ^ 64
 
 -- The same of the seed of a pick.
-abbrev pub IsPick : Pick → Type 0
-IsPick picks.Turns = Unit {0}
-IsPick (picks.Chance n) = n < 2 ^ 64
+abbrev pub IsPickRange : Pick → Type 0
+IsPickRange picks.Turns = Unit {0}
+IsPickRange (picks.Chance n) = n < 2 ^ 64
 
 -- A host's name has 16 bits, and its letters are at most 4,096.
 pub record IsHostLine (h : HostLine) : Type 0 where
   pub name : h.name < 65536
-  pub few_letters : length h.letters ≤ 4096
+  pub few_letters : length h.letters ≤ MOST_LETTERS
 
 -- A flow's name has 16 bits, the fields of its key are in their ranges, and its path goes by no switch twice.
 pub record IsFlowLine (f : Flow) : Type 0 where
@@ -56,15 +57,15 @@ pub record IsAskLine (switches : List ℕ) (q : Ask) : Type 0 where
 -- Hosts, switches and flows have names of their own, all numbers are in the ranges of their fields, and there are at
 -- most 4,096 flows and 10,000 asks.
 pub record IsReadable (w : Scenario) : Type 0 where
-  pub hash : IsHash w.shape.hash
-  pub pick : IsPick w.pick
+  pub hash : IsHashRange w.shape.hash
+  pub pick : IsPickRange w.pick
   pub hosts : All IsHostLine w.hosts
   pub own_hosts : AreApart (host_names w.hosts)
   pub switches : All (λ n. n < 65536) w.switches
   pub own_switches : AreApart w.switches
-  pub few_flows : length w.flows ≤ 4096
+  pub few_flows : length w.flows ≤ MOST_FLOWS
   pub flows : All IsFlowLine w.flows
   pub own_flows : AreApart (names_of w.flows)
   pub steps : All IsStepLine w.steps
-  pub few_asks : length w.asks ≤ 10000
+  pub few_asks : length w.asks ≤ MOST_ASKS
   pub asks : All (IsAskLine w.switches) w.asks

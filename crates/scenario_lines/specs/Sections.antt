@@ -2,7 +2,8 @@
 use Rattle.std.specs.Prelude.{ℕ, List, Bool, true, false, Option, Some, None, codes, if◌then◌else◌}
 use Rattle.std.specs.Str.{bytes_eq}
 use Rattle.scenario_lines.specs.declared.section.Section.{Section}
-use Rattle.scenario_lines.specs.declared.section.Section.TheVariants.{First, Second, Third, Declarations, Steps, Done}
+use Rattle.scenario_lines.specs.declared.section.Section.TheVariants as sections
+use Rattle.scenario_lines.specs.declared.section.Section.TheVariants.{Declarations, Steps, Done}
 use Rattle.scenario_lines.specs.declared.section.Keyword.{Keyword}
 use Rattle.scenario_lines.specs.declared.section.Keyword.TheVariants as words
 
@@ -13,7 +14,7 @@ is_done _ = false
 
 -- Whether no line came that isn't skipped.
 abbrev pub is_first : Section → Bool
-is_first First = true
+is_first sections.Version = true
 is_first _ = false
 
 -- Whether steps and asks may have come.
@@ -39,21 +40,21 @@ keyword_of w =
     if bytes_eq w (codes "done") then Some words.Done else None)))))))))))
 
 -- Whether a line with this first word may stand in this section.
-abbrev pub has_place : Section → Keyword → Bool
-has_place Second words.Shape = true
-has_place Third words.Pick = true
-has_place Declarations words.Host = true
-has_place Declarations words.Switch = true
-has_place Declarations words.Flow = true
-has_place Declarations words.Link = true
-has_place Declarations words.Packet = true
-has_place Declarations words.End = true
-has_place Declarations words.Release = true
-has_place Declarations words.Ask = true
-has_place Declarations words.Done = true
-has_place Steps words.Packet = true
-has_place Steps words.End = true
-has_place Steps words.Release = true
-has_place Steps words.Ask = true
-has_place Steps words.Done = true
-has_place _ _ = false
+abbrev pub admits : Section → Keyword → Bool
+admits sections.Shape words.Shape = true
+admits sections.Pick words.Pick = true
+admits Declarations words.Host = true
+admits Declarations words.Switch = true
+admits Declarations words.Flow = true
+admits Declarations words.Link = true
+admits Declarations words.Packet = true
+admits Declarations words.End = true
+admits Declarations words.Release = true
+admits Declarations words.Ask = true
+admits Declarations words.Done = true
+admits Steps words.Packet = true
+admits Steps words.End = true
+admits Steps words.Release = true
+admits Steps words.Ask = true
+admits Steps words.Done = true
+admits _ _ = false

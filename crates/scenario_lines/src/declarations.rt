@@ -5,24 +5,25 @@ ghost use Rattle.std.specs.Option.{option_copied};
 ghost use Rattle.flow_key.specs.Words.{words_left};
 ghost use Rattle.scenario_lines.specs.Counts.{names_of};
 ghost use Rattle.scenario_lines.specs.declared.section.Keyword.TheVariants as words;
-ghost use Rattle.scenario_lines.specs.Sections.{has_place};
-ghost use Rattle.scenario_lines.specs.Draft.{view, Fits};
+ghost use Rattle.scenario_lines.specs.Sections.{admits};
+ghost use Rattle.scenario_lines.specs.Draft.{view, FitsSoFar};
 ghost use Rattle.scenario_lines.specs.Spelling.{size};
-ghost use Rattle.scenario_lines.specs.Weight.{weight};
-ghost use Rattle.scenario_lines.specs.Fields.{Leaves, Gives, fresh_flow};
+ghost use Rattle.scenario_lines.specs.PrintedLen.{printed_len};
+ghost use Rattle.scenario_lines.specs.Fields.{LeavesState, GivesField, fresh_flow};
 ghost use Rattle.scenario_lines.specs.Line.{host_line, switch_line, flow_line, unlinked, linked, link_line};
 
 use crate::draft::Draft;
 use crate::fault::LineFault;
 use crate::fields::{end_field, number_field, room_for, word_field};
-use crate::index::{find_flow, put_flow};
+use crate::index::{find_flow, push_flow};
 use crate::keys::key_field;
 use crate::lists::{letters_field, path_field};
 use crate::names::{fresh_name, host_at, new_host};
 use crate::why::Why;
+use lg_model::limits::{MOST_FLOWS, MOST_HOSTS, MOST_SWITCHES};
 use lg_model::{Flow, HostLine, Letters, Path};
 
-fn put_letters(hosts: &mut Vec<HostLine>, at: u16, letters: Letters)
+fn set_letters(hosts: &mut Vec<HostLine>, at: u16, letters: Letters)
     requires { at < length hosts.old.items }
     ensures { hosts.new.items ≡ linked hosts.old.items at letters }
 {
@@ -30,60 +31,60 @@ fn put_letters(hosts: &mut Vec<HostLine>, at: u16, letters: Letters)
 }
 
 impl Draft {
-    // What stands behind `host`.
+    // The rest of a `host` line.
     #[tactic(auto, unfolding(crate::specs::Line::host_line))]
     pub(crate) fn host(&mut self, text: Option<&[u8]>) -> Result<(), LineFault>
-        requires { Fits self.old }
-        ensures fits { OnOk result (Fits self.new) }
-        ensures leaves { Leaves result (view self.new) (host_line (view self.old) (words_left 32 (option_copied text.entry))) }
-        ensures weight { OnOk result (weight (view self.new) ≤ weight (view self.old) + (5 + size (words_left 32 (option_copied text.entry)))) }
+        requires { FitsSoFar self.old }
+        ensures fits { OnOk result (FitsSoFar self.new) }
+        ensures leaves { LeavesState result (view self.new) (host_line (view self.old) (words_left 32 (option_copied text.entry))) }
+        ensures printed_len { OnOk result (printed_len (view self.new) ≤ printed_len (view self.old) + (5 + size (words_left 32 (option_copied text.entry)))) }
     {
         let (name, text) = number_field(text, 0, 65535)?;
         let name = name as u16;
         new_host(&self.hosts, name)?;
         end_field(text)?;
-        room_for(64, self.hosts.len())?;
+        room_for(MOST_HOSTS, self.hosts.len())?;
         let letters = Letters::new(Vec::new(*self.hosts.allocator()));
         self.hosts.push(HostLine { name, letters })?;
         Ok(())
     }
 
-    // What stands behind `switch`.
+    // The rest of a `switch` line.
     #[tactic(auto, unfolding(crate::specs::Line::switch_line))]
     pub(crate) fn switch(&mut self, text: Option<&[u8]>) -> Result<(), LineFault>
-        requires fits { Fits self.old }
-        requires place { has_place self.old.section words.Switch ≡ true }
-        ensures fits { OnOk result (Fits self.new) }
-        ensures leaves { Leaves result (view self.new) (switch_line (view self.old) (words_left 32 (option_copied text.entry))) }
-        ensures weight { OnOk result (weight (view self.new) ≤ weight (view self.old) + (7 + size (words_left 32 (option_copied text.entry)))) }
+        requires fits { FitsSoFar self.old }
+        requires section { admits self.old.section words.Switch ≡ true }
+        ensures fits { OnOk result (FitsSoFar self.new) }
+        ensures leaves { LeavesState result (view self.new) (switch_line (view self.old) (words_left 32 (option_copied text.entry))) }
+        ensures printed_len { OnOk result (printed_len (view self.new) ≤ printed_len (view self.old) + (7 + size (words_left 32 (option_copied text.entry)))) }
     {
         let (name, text) = number_field(text, 0, 65535)?;
         let name = name as u16;
         fresh_name(&self.switches, name)?;
         end_field(text)?;
-        room_for(64, self.switches.len())?;
+        room_for(MOST_SWITCHES, self.switches.len())?;
         self.switches.push(name)?;
         Ok(())
     }
 
     #[tactic(auto, unfolding(crate::specs::Fields::fresh_flow))]
     fn new_flow(&self, name: u16) -> Result<(), LineFault>
-        ensures gives { Gives (λ x. x) result (fresh_flow self.now.flows.items name) }
+        ensures gives { GivesField (λ x. x) result (fresh_flow self.now.flows.items name) }
         ensures fresh { OnOk result (position (λ m. m == name) (names_of self.now.flows.items) ≡ None) }
     {
-        match find_flow(&self.flows, &self.flow_places, name) {
+        match find_flow(&self.flows, &self.flow_positions, name) {
             None => Ok(()),
             Some(_) => Err(LineFault::Bad(Why::Repeated)),
         }
     }
 
-    // What stands behind `flow`.
+    // The rest of a `flow` line.
     #[tactic(auto, unfolding(crate::specs::Line::flow_line))]
     pub(crate) fn flow(&mut self, text: Option<&[u8]>) -> Result<(), LineFault>
-        requires { Fits self.old }
-        ensures fits { OnOk result (Fits self.new) }
-        ensures leaves { Leaves result (view self.new) (flow_line (view self.old) (words_left 32 (option_copied text.entry))) }
-        ensures weight { OnOk result (weight (view self.new) ≤ weight (view self.old) + (5 + size (words_left 32 (option_copied text.entry)))) }
+        requires { FitsSoFar self.old }
+        ensures fits { OnOk result (FitsSoFar self.new) }
+        ensures leaves { LeavesState result (view self.new) (flow_line (view self.old) (words_left 32 (option_copied text.entry))) }
+        ensures printed_len { OnOk result (printed_len (view self.new) ≤ printed_len (view self.old) + (5 + size (words_left 32 (option_copied text.entry)))) }
     {
         let (name, text) = number_field(text, 0, 65535)?;
         let name = name as u16;
@@ -95,7 +96,7 @@ impl Draft {
         let host_at = host_at(&self.hosts, host)?;
         let text = word_field(text, b"path")?;
         let hops = path_field(*self.flows.allocator(), &self.switches, text)?;
-        room_for(4096, self.flows.len())?;
+        room_for(MOST_FLOWS, self.flows.len())?;
         let path = Path::new(hops);
         let flow = Flow {
             name,
@@ -103,13 +104,13 @@ impl Draft {
             host_at,
             path,
         };
-        put_flow(&mut self.flows, &mut self.flow_places, flow)?;
+        push_flow(&mut self.flows, &mut self.flow_positions, flow)?;
         Ok(())
     }
 
     #[tactic(auto, unfolding(crate::specs::Line::unlinked))]
     fn unlinked_host(&self, at: u16) -> Result<(), LineFault>
-        ensures { Gives (λ x. x) result (unlinked self.now.hosts.items at) }
+        ensures { GivesField (λ x. x) result (unlinked self.now.hosts.items at) }
     {
         match self.hosts.get(at as usize) {
             None => Err(LineFault::Bad(Why::UnknownName)),
@@ -123,13 +124,13 @@ impl Draft {
         }
     }
 
-    // What stands behind `link`.
+    // The rest of a `link` line.
     #[tactic(auto, unfolding(crate::specs::Line::link_line))]
     pub(crate) fn link(&mut self, text: Option<&[u8]>) -> Result<(), LineFault>
-        requires { Fits self.old }
-        ensures fits { OnOk result (Fits self.new) }
-        ensures leaves { Leaves result (view self.new) (link_line (view self.old) (words_left 32 (option_copied text.entry))) }
-        ensures weight { OnOk result (weight (view self.new) ≤ weight (view self.old) + (5 + size (words_left 32 (option_copied text.entry)))) }
+        requires { FitsSoFar self.old }
+        ensures fits { OnOk result (FitsSoFar self.new) }
+        ensures leaves { LeavesState result (view self.new) (link_line (view self.old) (words_left 32 (option_copied text.entry))) }
+        ensures printed_len { OnOk result (printed_len (view self.new) ≤ printed_len (view self.old) + (5 + size (words_left 32 (option_copied text.entry)))) }
     {
         let (host, text) = number_field(text, 0, 65535)?;
         let host = host as u16;
@@ -137,7 +138,7 @@ impl Draft {
         self.unlinked_host(at)?;
         let (letters, text) = letters_field(*self.hosts.allocator(), text)?;
         end_field(text)?;
-        put_letters(&mut self.hosts, at, letters);
+        set_letters(&mut self.hosts, at, letters);
         Ok(())
     }
 }

@@ -1,11 +1,13 @@
 //! What the lines of a text have said so far.
 ghost use Rattle.std.specs.Prelude.{◌≡◌, ◌≤◌, ◌<◌, ◌+◌, ℕ, vec_len, slice_index};
+ghost use Rattle.lg_model.specs.declared.limits.TheConstants.{MOST_HOSTS, MOST_SWITCHES, MOST_FLOWS, MOST_PACKETS};
 ghost use Rattle.lg_model.specs.Scenario.{packet_count};
 ghost use Rattle.scenario_lines.specs.Sections.{is_done};
 ghost use Rattle.scenario_lines.specs.Index.{IsIndexed};
 ghost use Rattle.scenario_lines.specs.Counts.{names_of, ends_of};
 
 use crate::section::Section;
+use lg_model::limits::MOST_SWITCHES;
 use lg_model::{Ask, Flow, Hash, HostLine, Pick, Step};
 
 /// What the lines of a text have said so far: the section and the parts, and what is kept to take the next line
@@ -33,20 +35,20 @@ pub struct Draft {
     /// The asks.
     pub asks: Vec<Ask>,
     /// The position of each flow, at its name.
-    pub flow_places: Vec<u16>,
+    pub flow_positions: Vec<u16>,
     /// The packets of the steps.
     pub packets: u32,
     /// How many steps end an epoch of the switch at each position, without those that end one of every switch.
-    pub ends: [u64; 64],
+    pub ends: [u64; MOST_SWITCHES],
     /// How many steps end an epoch of every switch.
     pub ends_of_all: u64,
-    pub ghost few_hosts: { vec_len hosts ≤ 64 },
-    pub ghost few_switches: { vec_len switches ≤ 64 },
-    pub ghost few_flows: { vec_len flows ≤ 4096 },
-    pub ghost indexed: { IsIndexed (names_of flows.items) flow_places.items },
+    pub ghost few_hosts: { vec_len hosts ≤ MOST_HOSTS },
+    pub ghost few_switches: { vec_len switches ≤ MOST_SWITCHES },
+    pub ghost few_flows: { vec_len flows ≤ MOST_FLOWS },
+    pub ghost indexed: { IsIndexed (names_of flows.items) flow_positions.items },
     pub ghost counted: { packets ≡ packet_count steps.items },
-    pub ghost few_packets: { packets ≤ 1000000 },
-    pub ghost ended: { (i : ℕ) → i < 64 → slice_index ends i + ends_of_all ≡ ends_of i steps.items },
+    pub ghost few_packets: { packets ≤ MOST_PACKETS },
+    pub ghost ended: { (i : ℕ) → i < MOST_SWITCHES → slice_index ends i + ends_of_all ≡ ends_of i steps.items },
 }
 
 impl Draft {

@@ -10,7 +10,7 @@ use std::alloc::{AllocError, AllocFailed};
 pub enum LineFault {
     /// The line is refused.
     Bad(Why),
-    /// No memory was found.
+    /// Memory ran out.
     Memory,
 }
 

@@ -1,12 +1,12 @@
-//! The fields of a line, from left to right. What is left of a line is `None` behind its last word.
+//! The fields of a line, from left to right. What is left of a line is `None` after its last word.
 ghost use Rattle.std.specs.Prelude.{◌≡◌, ◌≤◌, ◌<◌, ◌+◌, ◌∷◌, length, IfOk, OnOk};
 ghost use Rattle.std.specs.Fmt.{decimal};
 ghost use Rattle.std.specs.Option.{option_copied};
 ghost use Rattle.flow_key.specs.Words.{words_left};
 ghost use Rattle.text_out.specs.Shapes.{hash_words};
 ghost use Rattle.scenario_lines.specs.Spelling.{size, pick_words};
-ghost use Rattle.scenario_lines.specs.Readable.{IsHash, IsPick};
-ghost use Rattle.scenario_lines.specs.Fields.{Gives, number, word, ended, room, room_to, hash, pick};
+ghost use Rattle.scenario_lines.specs.Readable.{IsHashRange, IsPickRange};
+ghost use Rattle.scenario_lines.specs.Fields.{GivesField, number, word, no_more, room, room_to, hash, pick};
 
 use crate::fault::LineFault;
 use crate::why::Why;
@@ -24,7 +24,7 @@ pub(crate) fn number_field(
     ensures least { IfOk result (λ x. low ≤ x.0) }
     ensures bound { IfOk result (λ x. x.0 ≤ most) }
     ensures taken { IfOk result (λ x. size (words_left 32 (option_copied text.entry)) ≡ length (decimal x.0) + 1 + size (words_left 32 (option_copied x.1))) }
-    ensures gives { Gives (λ x. (x.0, words_left 32 (option_copied x.1))) result (number low most (words_left 32 (option_copied text.entry))) }
+    ensures gives { GivesField (λ x. (x.0, words_left 32 (option_copied x.1))) result (number low most (words_left 32 (option_copied text.entry))) }
 {
     let Some(text) = text else {
         return Err(LineFault::Bad(Why::WordCount));
@@ -49,7 +49,7 @@ pub(crate) fn word_field<'a>(
     wanted: &[u8],
 ) -> Result<Option<&'a [u8]>, LineFault>
     ensures taken { IfOk result (λ x. size (words_left 32 (option_copied text.entry)) ≡ length wanted.now + 1 + size (words_left 32 (option_copied x))) }
-    ensures gives { Gives (λ x. words_left 32 (option_copied x)) result (word wanted.now (words_left 32 (option_copied text.entry))) }
+    ensures gives { GivesField (λ x. words_left 32 (option_copied x)) result (word wanted.now (words_left 32 (option_copied text.entry))) }
 {
     let Some(text) = text else {
         return Err(LineFault::Bad(Why::WordCount));
@@ -63,10 +63,10 @@ pub(crate) fn word_field<'a>(
 }
 
 // The end of the line. The word is cut off, since only the clause of `cut` tells that there is one.
-#[tactic(auto, unfolding(crate::specs::Fields::ended))]
+#[tactic(auto, unfolding(crate::specs::Fields::no_more))]
 pub(crate) fn end_field(text: Option<&[u8]>) -> Result<(), LineFault>
     ensures taken { OnOk result (size (words_left 32 (option_copied text.entry)) ≡ 0) }
-    ensures gives { Gives (λ x. x) result (ended (words_left 32 (option_copied text.entry))) }
+    ensures gives { GivesField (λ x. x) result (no_more (words_left 32 (option_copied text.entry))) }
 {
     match text {
         None => Ok(()),
@@ -77,26 +77,26 @@ pub(crate) fn end_field(text: Option<&[u8]>) -> Result<(), LineFault>
     }
 }
 
-// Room for one more, where at most so many may be.
+// `TooMany` where there are already `most`.
 #[tactic(auto, unfolding(crate::specs::Fields::room))]
-pub(crate) fn room_for(most: usize, held: usize) -> Result<(), LineFault>
-    ensures gives { Gives (λ x. x) result (room most held) }
-    ensures fits { OnOk result (held < most) }
+pub(crate) fn room_for(most: usize, count: usize) -> Result<(), LineFault>
+    ensures gives { GivesField (λ x. x) result (room most count) }
+    ensures fits { OnOk result (count < most) }
 {
-    if held < most {
+    if count < most {
         Ok(())
     } else {
         Err(LineFault::Bad(Why::TooMany))
     }
 }
 
-// Room for so many, where at most so many may be.
+// `TooMany` where there are more than `most`.
 #[tactic(auto, unfolding(crate::specs::Fields::room_to))]
-pub(crate) fn room_up_to(most: u32, held: u32) -> Result<(), LineFault>
-    ensures gives { Gives (λ x. x) result (room_to most held) }
-    ensures fits { OnOk result (held ≤ most) }
+pub(crate) fn room_up_to(most: u32, count: u32) -> Result<(), LineFault>
+    ensures gives { GivesField (λ x. x) result (room_to most count) }
+    ensures fits { OnOk result (count ≤ most) }
 {
-    if held <= most {
+    if count <= most {
         Ok(())
     } else {
         Err(LineFault::Bad(Why::TooMany))
@@ -106,9 +106,9 @@ pub(crate) fn room_up_to(most: u32, held: u32) -> Result<(), LineFault>
 // `ports`, or `seed N`.
 #[tactic(auto, unfolding(crate::specs::Fields::hash))]
 pub(crate) fn hash_field(text: Option<&[u8]>) -> Result<(Hash, Option<&[u8]>), LineFault>
-    ensures bound { IfOk result (λ x. IsHash x.0) }
+    ensures bound { IfOk result (λ x. IsHashRange x.0) }
     ensures taken { IfOk result (λ x. size (words_left 32 (option_copied text.entry)) ≡ size (hash_words x.0) + size (words_left 32 (option_copied x.1))) }
-    ensures gives { Gives (λ x. (x.0, words_left 32 (option_copied x.1))) result (hash (words_left 32 (option_copied text.entry))) }
+    ensures gives { GivesField (λ x. (x.0, words_left 32 (option_copied x.1))) result (hash (words_left 32 (option_copied text.entry))) }
 {
     let Some(text) = text else {
         return Err(LineFault::Bad(Why::WordCount));
@@ -127,9 +127,9 @@ pub(crate) fn hash_field(text: Option<&[u8]>) -> Result<(Hash, Option<&[u8]>), L
 // `turns`, or `chance N`.
 #[tactic(auto, unfolding(crate::specs::Fields::pick))]
 pub(crate) fn pick_field(text: Option<&[u8]>) -> Result<(Pick, Option<&[u8]>), LineFault>
-    ensures bound { IfOk result (λ x. IsPick x.0) }
+    ensures bound { IfOk result (λ x. IsPickRange x.0) }
     ensures taken { IfOk result (λ x. size (words_left 32 (option_copied text.entry)) ≡ size (pick_words x.0) + size (words_left 32 (option_copied x.1))) }
-    ensures gives { Gives (λ x. (x.0, words_left 32 (option_copied x.1))) result (pick (words_left 32 (option_copied text.entry))) }
+    ensures gives { GivesField (λ x. (x.0, words_left 32 (option_copied x.1))) result (pick (words_left 32 (option_copied text.entry))) }
 {
     let Some(text) = text else {
         return Err(LineFault::Bad(Why::WordCount));

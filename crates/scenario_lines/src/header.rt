@@ -1,13 +1,13 @@
-//! The start of a text, its three first lines and its last line.
+//! The start of a text, its first three lines and its last line.
 ghost use Rattle.std.specs.Prelude.{◌≡◌, ◌≤◌, ◌+◌, true, OnOk, length};
 ghost use Rattle.std.specs.Option.{option_copied};
 ghost use Rattle.flow_key.specs.Words.{words_left};
 ghost use Rattle.scenario_lines.specs.declared.section.Keyword.TheVariants as words;
-ghost use Rattle.scenario_lines.specs.Sections.{is_first, has_place};
-ghost use Rattle.scenario_lines.specs.Draft.{view, start, Fits};
-ghost use Rattle.scenario_lines.specs.Fields.{Leaves};
+ghost use Rattle.scenario_lines.specs.Sections.{is_first, admits};
+ghost use Rattle.scenario_lines.specs.Draft.{view, start, FitsSoFar};
+ghost use Rattle.scenario_lines.specs.Fields.{LeavesState};
 ghost use Rattle.scenario_lines.specs.Spelling.{size};
-ghost use Rattle.scenario_lines.specs.Weight.{weight};
+ghost use Rattle.scenario_lines.specs.PrintedLen.{printed_len};
 ghost use Rattle.scenario_lines.specs.Line.{first_line, shape_line, pick_line, done_line};
 
 use crate::draft::Draft;
@@ -16,6 +16,7 @@ use crate::fields::{end_field, hash_field, number_field, pick_field};
 use crate::section::Section;
 use crate::why::Why;
 use flow_key::words::is;
+use lg_model::limits::{MOST_ROWS, MOST_SWITCHES, MOST_WIDTH};
 use lg_model::{Hash, Pick};
 use std::alloc::Global;
 
@@ -23,10 +24,10 @@ impl Draft {
     /// Before the first line. Takes no memory yet; the parts will lie in memory of this allocator.
     pub fn new(alloc: Global) -> Draft
         ensures start { view result ≡ start }
-        ensures fits { Fits result }
+        ensures fits { FitsSoFar result }
     {
         Draft {
-            section: Section::First,
+            section: Section::Version,
             rows: 1,
             width: 1,
             hash: Hash::Ports,
@@ -36,57 +37,57 @@ impl Draft {
             flows: Vec::new(alloc),
             steps: Vec::new(alloc),
             asks: Vec::new(alloc),
-            flow_places: Vec::new(alloc),
+            flow_positions: Vec::new(alloc),
             packets: 0,
-            ends: [0; 64],
+            ends: [0; MOST_SWITCHES],
             ends_of_all: 0,
         }
     }
 
     // The first line, given whole.
     pub(crate) fn first(&mut self, line: &[u8]) -> Result<(), LineFault>
-        requires fits { Fits self.old }
-        requires place { is_first self.old.section ≡ true }
-        ensures fits { OnOk result (Fits self.new) }
-        ensures leaves { Leaves result (view self.new) (first_line (view self.old) line.now) }
-        ensures weight { OnOk result (weight (view self.new) ≤ weight (view self.old) + (length line.now + 1)) }
+        requires fits { FitsSoFar self.old }
+        requires section { is_first self.old.section ≡ true }
+        ensures fits { OnOk result (FitsSoFar self.new) }
+        ensures leaves { LeavesState result (view self.new) (first_line (view self.old) line.now) }
+        ensures printed_len { OnOk result (printed_len (view self.new) ≤ printed_len (view self.old) + (length line.now + 1)) }
     {
         if is(line, b"guardian 1") {
-            self.section = Section::Second;
+            self.section = Section::Shape;
             Ok(())
         } else {
             Err(LineFault::Bad(Why::Version))
         }
     }
 
-    // What stands behind `shape`.
+    // The rest of a `shape` line.
     #[tactic(auto, unfolding(crate::specs::Line::shape_line))]
     pub(crate) fn shape(&mut self, text: Option<&[u8]>) -> Result<(), LineFault>
-        requires fits { Fits self.old }
-        requires place { has_place self.old.section words.Shape ≡ true }
-        ensures fits { OnOk result (Fits self.new) }
-        ensures leaves { Leaves result (view self.new) (shape_line (view self.old) (words_left 32 (option_copied text.entry))) }
-        ensures weight { OnOk result (weight (view self.new) ≤ weight (view self.old) + (6 + size (words_left 32 (option_copied text.entry)))) }
+        requires fits { FitsSoFar self.old }
+        requires section { admits self.old.section words.Shape ≡ true }
+        ensures fits { OnOk result (FitsSoFar self.new) }
+        ensures leaves { LeavesState result (view self.new) (shape_line (view self.old) (words_left 32 (option_copied text.entry))) }
+        ensures printed_len { OnOk result (printed_len (view self.new) ≤ printed_len (view self.old) + (6 + size (words_left 32 (option_copied text.entry)))) }
     {
-        let (rows, text) = number_field(text, 1, 8)?;
-        let (width, text) = number_field(text, 1, 4096)?;
+        let (rows, text) = number_field(text, 1, u64::from(MOST_ROWS))?;
+        let (width, text) = number_field(text, 1, u64::from(MOST_WIDTH))?;
         let (hash, text) = hash_field(text)?;
         end_field(text)?;
-        self.section = Section::Third;
+        self.section = Section::Pick;
         self.rows = rows as u8;
         self.width = width as u16;
         self.hash = hash;
         Ok(())
     }
 
-    // What stands behind `pick`.
+    // The rest of a `pick` line.
     #[tactic(auto, unfolding(crate::specs::Line::pick_line))]
     pub(crate) fn pick(&mut self, text: Option<&[u8]>) -> Result<(), LineFault>
-        requires fits { Fits self.old }
-        requires place { has_place self.old.section words.Pick ≡ true }
-        ensures fits { OnOk result (Fits self.new) }
-        ensures leaves { Leaves result (view self.new) (pick_line (view self.old) (words_left 32 (option_copied text.entry))) }
-        ensures weight { OnOk result (weight (view self.new) ≤ weight (view self.old) + (5 + size (words_left 32 (option_copied text.entry)))) }
+        requires fits { FitsSoFar self.old }
+        requires section { admits self.old.section words.Pick ≡ true }
+        ensures fits { OnOk result (FitsSoFar self.new) }
+        ensures leaves { LeavesState result (view self.new) (pick_line (view self.old) (words_left 32 (option_copied text.entry))) }
+        ensures printed_len { OnOk result (printed_len (view self.new) ≤ printed_len (view self.old) + (5 + size (words_left 32 (option_copied text.entry)))) }
     {
         let (pick, text) = pick_field(text)?;
         end_field(text)?;
@@ -95,14 +96,14 @@ impl Draft {
         Ok(())
     }
 
-    // What stands behind `done`.
+    // The rest of a `done` line.
     #[tactic(auto, unfolding(crate::specs::Line::done_line))]
     pub(crate) fn done(&mut self, text: Option<&[u8]>) -> Result<(), LineFault>
-        requires fits { Fits self.old }
-        requires place { has_place self.old.section words.Done ≡ true }
-        ensures fits { OnOk result (Fits self.new) }
-        ensures leaves { Leaves result (view self.new) (done_line (view self.old) (words_left 32 (option_copied text.entry))) }
-        ensures weight { OnOk result (weight (view self.new) ≤ weight (view self.old) + (5 + size (words_left 32 (option_copied text.entry)))) }
+        requires fits { FitsSoFar self.old }
+        requires section { admits self.old.section words.Done ≡ true }
+        ensures fits { OnOk result (FitsSoFar self.new) }
+        ensures leaves { LeavesState result (view self.new) (done_line (view self.old) (words_left 32 (option_copied text.entry))) }
+        ensures printed_len { OnOk result (printed_len (view self.new) ≤ printed_len (view self.old) + (5 + size (words_left 32 (option_copied text.entry)))) }
     {
         end_field(text)?;
         self.section = Section::Done;

@@ -1,6 +1,7 @@
 //! Where the flow of a name stands.
 ghost use Rattle.std.specs.Prelude.{◌≡◌, ◌<◌, ◌≤◌, ◌==◌, length, ◌++◌, ◌∷◌, [], None, IfSome, OnOk, OnErr, take, slice_index};
 ghost use Rattle.std.specs.List.{position};
+ghost use Rattle.lg_model.specs.declared.limits.TheConstants.{MOST_FLOWS};
 ghost use Rattle.scenario_lines.specs.Counts.{names_of};
 ghost use Rattle.scenario_lines.specs.Index.{IsIndexed};
 
@@ -8,18 +9,18 @@ use lg_model::Flow;
 use std::alloc::AllocError;
 
 // The position of the flow of this name, by a table that has the position of each flow's name.
-pub(crate) fn find_flow(flows: &[Flow], places: &[u16], name: u16) -> Option<u16>
-    requires { IsIndexed (names_of flows.now) places.now }
+pub(crate) fn find_flow(flows: &[Flow], positions: &[u16], name: u16) -> Option<u16>
+    requires { IsIndexed (names_of flows.now) positions.now }
     ensures value { result ≡ position (λ m. m == name) (names_of flows.now) }
     ensures bound { IfSome result (λ i. i < length flows.now) }
     ensures named { IfSome result (λ i. slice_index (names_of flows.now) i ≡ name) }
 {
     let name_at = name as usize;
-    if name_at < places.len() {
-        let at = places[name_at];
-        let place = at as usize;
-        if place < flows.len() {
-            if flows[place].name == name {
+    if name_at < positions.len() {
+        let at = positions[name_at];
+        let index = at as usize;
+        if index < flows.len() {
+            if flows[index].name == name {
                 return Some(at);
             }
         }
@@ -29,33 +30,33 @@ pub(crate) fn find_flow(flows: &[Flow], places: &[u16], name: u16) -> Option<u16
 
 // Adds a flow with a name that isn't there yet. The table grows first and is written last, so that it holds its
 // promise where memory ran out in between.
-pub(crate) fn put_flow(
+pub(crate) fn push_flow(
     flows: &mut Vec<Flow>,
-    places: &mut Vec<u16>,
+    positions: &mut Vec<u16>,
     flow: Flow,
 ) -> Result<(), AllocError>
-    requires indexed { IsIndexed (names_of flows.old.items) places.old.items }
+    requires indexed { IsIndexed (names_of flows.old.items) positions.old.items }
     requires fresh { position (λ m. m == flow.name) (names_of flows.old.items) ≡ None }
-    requires few { length flows.old.items < 4096 }
+    requires few { length flows.old.items < MOST_FLOWS }
     ensures added { OnOk result (flows.new.items ≡ flows.old.items ++ flow ∷ []) }
     ensures same { OnErr result (flows.new.items ≡ flows.old.items) }
-    ensures indexed { IsIndexed (names_of flows.new.items) places.new.items }
+    ensures indexed { IsIndexed (names_of flows.new.items) positions.new.items }
 {
-    let place = flows.len() as u16;
+    let index = flows.len() as u16;
     let name_at = flow.name as usize;
-    grow(places, name_at + 1)?;
+    grow(positions, name_at + 1)?;
     flows.push(flow)?;
-    places[name_at] = place;
+    positions[name_at] = index;
     Ok(())
 }
 
-// Makes the table at least so long.
-fn grow(places: &mut Vec<u16>, len: usize) -> Result<(), AllocError>
-    ensures longer { OnOk result (len ≤ length places.new.items) }
-    ensures kept { take (length places.old.items) places.new.items ≡ places.old.items }
+// Grows the table to at least `len`.
+fn grow(positions: &mut Vec<u16>, len: usize) -> Result<(), AllocError>
+    ensures longer { OnOk result (len ≤ length positions.new.items) }
+    ensures kept { take (length positions.old.items) positions.new.items ≡ positions.old.items }
 {
-    while places.len() < len {
-        places.push(0)?;
+    while positions.len() < len {
+        positions.push(0)?;
     }
     Ok(())
 }

@@ -5,7 +5,7 @@
 //! | [`Draft`] | what the lines so far have said; takes one line after the other |
 //! | [`Section`], [`Keyword`] | the part of the text that a line stands in, and the first words of lines |
 //! | [`Why`] | why a line, or a whole text, is refused |
-//! | [`LineFault`] | why a line was not taken: a why, or want of memory |
+//! | [`LineFault`] | why a line was not taken: a why, or no memory |
 #![tactic(auto)]
 
 mod declarations;

@@ -4,21 +4,23 @@ ghost use Rattle.std.specs.Fmt.{decimal};
 ghost use Rattle.std.specs.List.{list_all, list_any};
 ghost use Rattle.std.specs.Option.{option_copied};
 ghost use Rattle.flow_key.specs.Words.{words_left};
+ghost use Rattle.lg_model.specs.declared.limits.TheConstants.{MOST_HOPS, MOST_LETTERS};
 ghost use Rattle.scenario_lines.specs.Spelling.{size, path_words};
 ghost use Rattle.scenario_lines.specs.Readable.{AreApart};
-ghost use Rattle.scenario_lines.specs.Fields.{Gives, number, hop, path, is_letter, letter_of, letters_word, delays};
+ghost use Rattle.scenario_lines.specs.Fields.{GivesField, number, hop, path, is_letter, letter_of, letters_word, delays};
 
 use crate::fault::LineFault;
 use crate::fields::number_field;
-use crate::names::{fresh_name, place_of};
+use crate::names::{fresh_name, position_of};
 use crate::why::Why;
 use flow_key::words;
+use lg_model::limits::{MOST_HOPS, MOST_LETTERS};
 use lg_model::{Letter, Letters};
 use std::alloc::Global;
 
 #[tactic(auto, unfolding(crate::specs::Fields::number))]
 fn name_in(word: &[u8]) -> Result<u16, LineFault>
-    ensures gives { Gives (λ n. (n, [])) result (number 0 65535 (word.now ∷ [])) }
+    ensures gives { GivesField (λ n. (n, [])) result (number 0 65535 (word.now ∷ [])) }
     ensures spelled { IfOk result (λ n. word.now ≡ decimal n) }
 {
     match words::number(word, 65535) {
@@ -30,18 +32,18 @@ fn name_in(word: &[u8]) -> Result<u16, LineFault>
 #[tactic(auto, unfolding(crate::specs::Fields::hop))]
 fn next_hop(switches: &[u16], sofar: &[u16], word: &[u8]) -> Result<u16, LineFault>
     requires few { length switches.now ≤ 65536 }
-    requires short { length sofar.now ≤ 16 }
-    ensures gives { Gives (λ x. x) result (hop switches.now sofar.now word.now) }
-    ensures fits { OnOk result (length sofar.now < 16) }
+    requires short { length sofar.now ≤ MOST_HOPS }
+    ensures gives { GivesField (λ x. x) result (hop switches.now sofar.now word.now) }
+    ensures fits { OnOk result (length sofar.now < MOST_HOPS) }
     ensures bound { IfOk result (λ at. at < length switches.now) }
     ensures fresh { IfOk result (λ at. list_any (λ m. m == at) sofar.now ≡ false) }
     ensures spelled { IfOk result (λ at. word.now ≡ decimal (slice_index switches.now at)) }
 {
-    if sofar.len() == 16 {
+    if sofar.len() == MOST_HOPS {
         return Err(LineFault::Bad(Why::BadPath));
     }
     let name = name_in(word)?;
-    let at = place_of(switches, name)?;
+    let at = position_of(switches, name)?;
     fresh_name(sofar, at)?;
     Ok(at)
 }
@@ -54,9 +56,9 @@ pub(crate) fn path_field(
     text: Option<&[u8]>,
 ) -> Result<Vec<u16>, LineFault>
     requires { length switches.now ≤ 65536 }
-    ensures gives { Gives (λ v. v.items) result (path switches.now [] (words_left 32 (option_copied text.entry))) }
+    ensures gives { GivesField (λ v. v.items) result (path switches.now [] (words_left 32 (option_copied text.entry))) }
     ensures some { IfOk result (λ v. 1 ≤ length v.items) }
-    ensures short { IfOk result (λ v. length v.items ≤ 16) }
+    ensures short { IfOk result (λ v. length v.items ≤ MOST_HOPS) }
     ensures bound { IfOk result (λ v. All (λ at. at < length switches.now) v.items) }
     ensures once { IfOk result (λ v. AreApart v.items) }
     ensures taken { IfOk result (λ v. size (words_left 32 (option_copied text.entry)) ≡ size (path_words switches.now v.items)) }
@@ -104,7 +106,7 @@ fn letter(b: u8) -> Letter
 }
 
 fn letters_in(alloc: Global, word: &[u8]) -> Result<Letters, LineFault>
-    ensures gives { Gives (λ x. x) result (Ok (map letter_of word.now)) }
+    ensures gives { GivesField (λ x. x) result (Ok (map letter_of word.now)) }
     ensures count { IfOk result (λ x. length x ≡ length word.now) }
 {
     let mut letters: Vec<Letter> = Vec::new(alloc);
@@ -120,9 +122,9 @@ pub(crate) fn letters_field(
     alloc: Global,
     text: Option<&[u8]>,
 ) -> Result<(Letters, Option<&[u8]>), LineFault>
-    ensures few { IfOk result (λ x. length x.0 ≤ 4096) }
+    ensures few { IfOk result (λ x. length x.0 ≤ MOST_LETTERS) }
     ensures taken { IfOk result (λ x. size (words_left 32 (option_copied text.entry)) ≡ length x.0 + 1 + size (words_left 32 (option_copied x.1))) }
-    ensures gives { Gives (λ x. (x.0, words_left 32 (option_copied x.1))) result (letters_word (words_left 32 (option_copied text.entry))) }
+    ensures gives { GivesField (λ x. (x.0, words_left 32 (option_copied x.1))) result (letters_word (words_left 32 (option_copied text.entry))) }
 {
     let Some(text) = text else {
         return Err(LineFault::Bad(Why::WordCount));
@@ -131,7 +133,7 @@ pub(crate) fn letters_field(
     if word.len() < 1 {
         return Err(LineFault::Bad(Why::BadLetters));
     }
-    if word.len() > 4096 {
+    if word.len() > MOST_LETTERS {
         return Err(LineFault::Bad(Why::BadLetters));
     }
     if !are_letters(word) {
@@ -151,7 +153,7 @@ pub(crate) fn delays_field<'a>(
     ensures taken { IfOk result (λ x. size (map decimal x.0.items) + size (words_left 32 (option_copied x.1)) ≡ size (words_left 32 (option_copied text.entry))) }
     ensures count { IfOk result (λ x. length x.0.items ≡ length path.now) }
     ensures small { IfOk result (λ x. All (λ d. d < 4294967296) x.0.items) }
-    ensures gives { Gives (λ x. (x.0.items, words_left 32 (option_copied x.1))) result (delays path.now [] (words_left 32 (option_copied text.entry))) }
+    ensures gives { GivesField (λ x. (x.0.items, words_left 32 (option_copied x.1))) result (delays path.now [] (words_left 32 (option_copied text.entry))) }
 {
     let mut delays: Vec<u32> = Vec::with_capacity(alloc, path.len())?;
     let mut left = text;

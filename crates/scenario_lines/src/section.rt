@@ -1,19 +1,19 @@
 //! The sections of a text and the first words of lines.
 ghost use Rattle.std.specs.Prelude.{◌≡◌, ◌+◌, length, IfSome};
-ghost use Rattle.scenario_lines.specs.Sections.{keyword_of, has_place};
-ghost use Rattle.scenario_lines.specs.Weight.{keyword_size};
+ghost use Rattle.scenario_lines.specs.Sections.{keyword_of, admits};
+ghost use Rattle.scenario_lines.specs.PrintedLen.{keyword_size};
 
 use flow_key::words::is;
 
 /// The part of a text that the next line stands in (docs/FORMATS.md, Scenario text).
 #[derive(Clone, Copy, Debug, PartialEq, Eq)]
 pub enum Section {
-    /// No line came that isn't skipped.
-    First,
-    /// The first line came.
-    Second,
-    /// The shape came.
-    Third,
+    /// No line came that isn't skipped: the line of the version comes next.
+    Version,
+    /// The line of the version came: the shape comes next.
+    Shape,
+    /// The shape came: the pick comes next.
+    Pick,
     /// The pick came, and no step or ask.
     Declarations,
     /// A step or an ask came.
@@ -91,11 +91,11 @@ impl Keyword {
 impl Section {
     // Whether a line with this first word may stand in the section.
     pub(crate) fn admits(self, word: Keyword) -> bool
-        ensures { result ≡ has_place self word }
+        ensures { result ≡ admits self word }
     {
         match self {
-            Section::Second => matches!(word, Keyword::Shape),
-            Section::Third => matches!(word, Keyword::Pick),
+            Section::Shape => matches!(word, Keyword::Shape),
+            Section::Pick => matches!(word, Keyword::Pick),
             Section::Declarations => matches!(
                 word,
                 Keyword::Host

@@ -2,13 +2,14 @@
 ghost use Rattle.std.specs.Prelude.{◌≡◌, ◌<◌, ◌≤◌, ◌+◌, IfOk, OnOk, true, length, slice_index};
 ghost use Rattle.std.specs.Option.{option_copied};
 ghost use Rattle.flow_key.specs.Words.{words_left};
+ghost use Rattle.lg_model.specs.declared.limits.TheConstants.{MOST_SWITCHES, MOST_HOPS};
 ghost use Rattle.scenario_lines.specs.Counts.{names_of, path_at, ends_of};
 ghost use Rattle.scenario_lines.specs.declared.section.Keyword.TheVariants as words;
-ghost use Rattle.scenario_lines.specs.Sections.{has_place};
-ghost use Rattle.scenario_lines.specs.Draft.{view, Fits};
+ghost use Rattle.scenario_lines.specs.Sections.{admits};
+ghost use Rattle.scenario_lines.specs.Draft.{view, FitsSoFar};
 ghost use Rattle.scenario_lines.specs.Spelling.{size};
-ghost use Rattle.scenario_lines.specs.Weight.{weight};
-ghost use Rattle.scenario_lines.specs.Fields.{Leaves, Gives, place, all_room, room_for_all};
+ghost use Rattle.scenario_lines.specs.PrintedLen.{printed_len};
+ghost use Rattle.scenario_lines.specs.Fields.{LeavesState, GivesField, position_of, all_room, room_for_all};
 ghost use Rattle.scenario_lines.specs.Line.{packet_line, end_line, end_one, end_all, release_line, ask_line};
 
 use crate::draft::Draft;
@@ -16,22 +17,23 @@ use crate::fault::LineFault;
 use crate::fields::{end_field, number_field, room_for, room_up_to};
 use crate::index::find_flow;
 use crate::lists::delays_field;
-use crate::names::{known_name, place_of};
+use crate::names::{known_name, position_of};
 use crate::section::Section;
 use crate::tail::{burst_field, fate_field};
 use crate::why::Why;
 use flow_key::words;
 use flow_key::words::is;
+use lg_model::limits::{MOST_ASKS, MOST_ENDS, MOST_PACKETS};
 use lg_model::{Ask, Delays, Step};
 
 impl Draft {
-    #[tactic(auto, unfolding(crate::specs::Fields::place))]
+    #[tactic(auto, unfolding(crate::specs::Fields::position_of))]
     fn flow_at(&self, name: u16) -> Result<u16, LineFault>
-        ensures gives { Gives (λ x. x) result (place (names_of self.now.flows.items) name) }
+        ensures gives { GivesField (λ x. x) result (position_of (names_of self.now.flows.items) name) }
         ensures bound { IfOk result (λ i. i < length self.now.flows.items) }
         ensures named { IfOk result (λ i. slice_index (names_of self.now.flows.items) i ≡ name) }
     {
-        match find_flow(&self.flows, &self.flow_places, name) {
+        match find_flow(&self.flows, &self.flow_positions, name) {
             None => Err(LineFault::Bad(Why::UnknownName)),
             Some(at) => Ok(at),
         }
@@ -39,22 +41,22 @@ impl Draft {
 
     // The path of the flow at a position.
     fn path_of(&self, at: u16) -> &[u16]
-        requires fits { Fits self.now }
+        requires fits { FitsSoFar self.now }
         requires here { at < length self.now.flows.items }
         ensures value { result.now ≡ path_at self.now.flows.items at }
-        ensures short { length result.now ≤ 16 }
+        ensures short { length result.now ≤ MOST_HOPS }
     {
         self.flows[at as usize].path.items()
     }
 
-    // What stands behind `packet`.
+    // The rest of a `packet` line.
     #[tactic(auto, unfolding(crate::specs::Line::packet_line))]
     pub(crate) fn packet(&mut self, text: Option<&[u8]>) -> Result<(), LineFault>
-        requires fits { Fits self.old }
-        requires place { has_place self.old.section words.Packet ≡ true }
-        ensures fits { OnOk result (Fits self.new) }
-        ensures leaves { Leaves result (view self.new) (packet_line (view self.old) (words_left 32 (option_copied text.entry))) }
-        ensures weight { OnOk result (weight (view self.new) ≤ weight (view self.old) + (7 + size (words_left 32 (option_copied text.entry)))) }
+        requires fits { FitsSoFar self.old }
+        requires section { admits self.old.section words.Packet ≡ true }
+        ensures fits { OnOk result (FitsSoFar self.new) }
+        ensures leaves { LeavesState result (view self.new) (packet_line (view self.old) (words_left 32 (option_copied text.entry))) }
+        ensures printed_len { OnOk result (printed_len (view self.new) ≤ printed_len (view self.old) + (7 + size (words_left 32 (option_copied text.entry)))) }
     {
         let (name, text) = number_field(text, 0, 65535)?;
         let flow_at = self.flow_at(name as u16)?;
@@ -66,7 +68,7 @@ impl Draft {
         let (burst, text) = burst_field(text)?;
         let fate = fate_field(hops, text)?;
         let packets = self.packets + burst;
-        room_up_to(1000000, packets)?;
+        room_up_to(MOST_PACKETS, packets)?;
         let delays = Delays::new(delays);
         self.steps.push(Step::Packet {
             flow_at,
@@ -82,7 +84,7 @@ impl Draft {
 
     // How many epochs of the switch at a position have ended.
     fn ends_at(&self, at: usize) -> u64
-        requires { at < 64 }
+        requires { at < MOST_SWITCHES }
         ensures { result ≡ ends_of at self.now.steps.items }
     {
         self.ends[at] + self.ends_of_all
@@ -90,12 +92,12 @@ impl Draft {
 
     // Whether each of the first switches may end an epoch more.
     fn has_room(&self, switches: usize) -> bool
-        requires { switches ≤ 64 }
+        requires { switches ≤ MOST_SWITCHES }
         ensures { result ≡ all_room self.now.steps.items switches }
     {
         if switches == 0 {
             true
-        } else if self.ends_at(switches - 1) < 65535 {
+        } else if self.ends_at(switches - 1) < u64::from(MOST_ENDS) {
             self.has_room(switches - 1)
         } else {
             false
@@ -104,17 +106,20 @@ impl Draft {
 
     #[tactic(auto, unfolding(crate::specs::Line::end_one))]
     fn end_of_one(&mut self, text: Option<&[u8]>) -> Result<(), LineFault>
-        requires fits { Fits self.old }
-        requires place { has_place self.old.section words.End ≡ true }
-        ensures fits { OnOk result (Fits self.new) }
-        ensures leaves { Leaves result (view self.new) (end_one (view self.old) (words_left 32 (option_copied text.entry))) }
-        ensures weight { OnOk result (weight (view self.new) ≤ weight (view self.old) + (4 + size (words_left 32 (option_copied text.entry)))) }
+        requires fits { FitsSoFar self.old }
+        requires section { admits self.old.section words.End ≡ true }
+        ensures fits { OnOk result (FitsSoFar self.new) }
+        ensures leaves { LeavesState result (view self.new) (end_one (view self.old) (words_left 32 (option_copied text.entry))) }
+        ensures printed_len { OnOk result (printed_len (view self.new) ≤ printed_len (view self.old) + (4 + size (words_left 32 (option_copied text.entry)))) }
     {
         let (switch, text) = number_field(text, 0, 65535)?;
         let switch = switch as u16;
-        let switch_at = place_of(&self.switches, switch)?;
+        let switch_at = position_of(&self.switches, switch)?;
         end_field(text)?;
-        room_for(65535, self.ends_at(switch_at as usize) as usize)?;
+        room_for(
+            MOST_ENDS as usize,
+            self.ends_at(switch_at as usize) as usize,
+        )?;
         self.steps.push(Step::End { switch_at })?;
         self.ends[switch_at as usize] += 1;
         self.section = Section::Steps;
@@ -123,11 +128,11 @@ impl Draft {
 
     #[tactic(auto, unfolding(crate::specs::Line::end_all, crate::specs::Fields::room_for_all))]
     fn end_of_all(&mut self, text: Option<&[u8]>) -> Result<(), LineFault>
-        requires fits { Fits self.old }
-        requires place { has_place self.old.section words.End ≡ true }
-        ensures fits { OnOk result (Fits self.new) }
-        ensures leaves { Leaves result (view self.new) (end_all (view self.old) (words_left 32 (option_copied text.entry))) }
-        ensures weight { OnOk result (weight (view self.new) ≤ weight (view self.old) + (8 + size (words_left 32 (option_copied text.entry)))) }
+        requires fits { FitsSoFar self.old }
+        requires section { admits self.old.section words.End ≡ true }
+        ensures fits { OnOk result (FitsSoFar self.new) }
+        ensures leaves { LeavesState result (view self.new) (end_all (view self.old) (words_left 32 (option_copied text.entry))) }
+        ensures printed_len { OnOk result (printed_len (view self.new) ≤ printed_len (view self.old) + (8 + size (words_left 32 (option_copied text.entry)))) }
     {
         end_field(text)?;
         if !self.has_room(self.switches.len()) {
@@ -139,14 +144,14 @@ impl Draft {
         Ok(())
     }
 
-    // What stands behind `end`.
+    // The rest of an `end` line.
     #[tactic(auto, unfolding(crate::specs::Line::end_line))]
     pub(crate) fn end(&mut self, text: Option<&[u8]>) -> Result<(), LineFault>
-        requires fits { Fits self.old }
-        requires place { has_place self.old.section words.End ≡ true }
-        ensures fits { OnOk result (Fits self.new) }
-        ensures leaves { Leaves result (view self.new) (end_line (view self.old) (words_left 32 (option_copied text.entry))) }
-        ensures weight { OnOk result (weight (view self.new) ≤ weight (view self.old) + (4 + size (words_left 32 (option_copied text.entry)))) }
+        requires fits { FitsSoFar self.old }
+        requires section { admits self.old.section words.End ≡ true }
+        ensures fits { OnOk result (FitsSoFar self.new) }
+        ensures leaves { LeavesState result (view self.new) (end_line (view self.old) (words_left 32 (option_copied text.entry))) }
+        ensures printed_len { OnOk result (printed_len (view self.new) ≤ printed_len (view self.old) + (4 + size (words_left 32 (option_copied text.entry)))) }
     {
         let Some(line) = text else {
             return Err(LineFault::Bad(Why::WordCount));
@@ -159,14 +164,14 @@ impl Draft {
         }
     }
 
-    // What stands behind `release`.
+    // The rest of a `release` line.
     #[tactic(auto, unfolding(crate::specs::Line::release_line))]
     pub(crate) fn release(&mut self, text: Option<&[u8]>) -> Result<(), LineFault>
-        requires fits { Fits self.old }
-        requires place { has_place self.old.section words.Release ≡ true }
-        ensures fits { OnOk result (Fits self.new) }
-        ensures leaves { Leaves result (view self.new) (release_line (view self.old) (words_left 32 (option_copied text.entry))) }
-        ensures weight { OnOk result (weight (view self.new) ≤ weight (view self.old) + (8 + size (words_left 32 (option_copied text.entry)))) }
+        requires fits { FitsSoFar self.old }
+        requires section { admits self.old.section words.Release ≡ true }
+        ensures fits { OnOk result (FitsSoFar self.new) }
+        ensures leaves { LeavesState result (view self.new) (release_line (view self.old) (words_left 32 (option_copied text.entry))) }
+        ensures printed_len { OnOk result (printed_len (view self.new) ≤ printed_len (view self.old) + (8 + size (words_left 32 (option_copied text.entry)))) }
     {
         end_field(text)?;
         self.steps.push(Step::Release)?;
@@ -174,14 +179,14 @@ impl Draft {
         Ok(())
     }
 
-    // What stands behind `ask`.
+    // The rest of an `ask` line.
     #[tactic(auto, unfolding(crate::specs::Line::ask_line))]
     pub(crate) fn ask(&mut self, text: Option<&[u8]>) -> Result<(), LineFault>
-        requires fits { Fits self.old }
-        requires place { has_place self.old.section words.Ask ≡ true }
-        ensures fits { OnOk result (Fits self.new) }
-        ensures leaves { Leaves result (view self.new) (ask_line (view self.old) (words_left 32 (option_copied text.entry))) }
-        ensures weight { OnOk result (weight (view self.new) ≤ weight (view self.old) + (4 + size (words_left 32 (option_copied text.entry)))) }
+        requires fits { FitsSoFar self.old }
+        requires section { admits self.old.section words.Ask ≡ true }
+        ensures fits { OnOk result (FitsSoFar self.new) }
+        ensures leaves { LeavesState result (view self.new) (ask_line (view self.old) (words_left 32 (option_copied text.entry))) }
+        ensures printed_len { OnOk result (printed_len (view self.new) ≤ printed_len (view self.old) + (4 + size (words_left 32 (option_copied text.entry)))) }
     {
         let (flow, text) = number_field(text, 0, 65535)?;
         let flow_at = self.flow_at(flow as u16)?;
@@ -191,7 +196,7 @@ impl Draft {
         let (epoch, text) = number_field(text, 0, 4294967295)?;
         let epoch = epoch as u32;
         end_field(text)?;
-        room_for(10000, self.asks.len())?;
+        room_for(MOST_ASKS, self.asks.len())?;
         self.section = Section::Steps;
         self.asks.push(Ask {
             flow_at,

@@ -15,7 +15,7 @@ pub enum Why {
     WordCount,
     /// A word isn't a number of its range.
     BadNumber,
-    /// A word of a key has not its form.
+    /// A word of a key is malformed.
     BadKey,
     /// A name, a `link` or a switch of a path comes twice.
     Repeated,

@@ -9,7 +9,7 @@ use Rattle.lg_model.specs.declared.scenario.Step.TheVariants.{End}
 use Rattle.lg_model.specs.Scenario.{is_end_of}
 use Rattle.scenario_lines.specs.Counts.{ends_of}
 use Rattle.scenario_lines.proofs.CountLemmas.{ends_more}
-use Rattle.scenario_parts.specs.Parts.{IsEndPlace}
+use Rattle.scenario_parts.specs.Parts.{IsEndInRange}
 
 -- The steps so far and one more.
 pub one_more : (ts : List Step) (i : ℕ) (t : Step) → i < length ts → t ≡ get_or ts i t → take (i + 1) ts ≡ take i ts ++ t ∷ []
@@ -20,8 +20,8 @@ pub other_counted : (ts : List Step) (i k : ℕ) (t : Step) (n m : ℕ) → i < 
 other_counted ts i k t n m lt is so more = more ∙ rw (one_more ts i t lt is, so) (sym (ends_more k (take i ts) t))
 
 -- The switch of an end is there.
-pub end_place : (switches : ℕ) (ts : List Step) (i at : ℕ) (t : Step) → All (IsEndPlace switches) ts → i < length ts → t ≡ get_or ts i t → t ≡ End at → at < switches
-end_place switches ts i at t all lt is end = let here : IsEndPlace switches t = rw is (all i t lt) in rw end at here
+pub end_in_range : (switches : ℕ) (ts : List Step) (i at : ℕ) (t : Step) → All (IsEndInRange switches) ts → i < length ts → t ≡ get_or ts i t → t ≡ End at → at < switches
+end_in_range switches ts i at t all lt is end = let here : IsEndInRange switches t = rw is (all i t lt) in rw end at here
 
 -- One switch has too many ends.
 pub too_many : (switches : ℕ) (ts : List Step) (at : ℕ) → at < switches → 65535 < ends_of at ts → Decides false ((s : ℕ) → s < switches → ends_of s ts ≤ 65535)

@@ -15,11 +15,11 @@ use Rattle.lg_model.specs.Scenario.{Scenario}
 use Rattle.scenario_lines.specs.declared.section.Section.TheVariants.{Done}
 use Rattle.text_out.specs.Words.{Words, spaced}
 use Rattle.scenario_lines.specs.Spelling.{line_text, size, burst_words, fate_words, guardian_words, shape_line_words, pick_line_words, host_words, switch_words, flow_words, link_words, step_words, ask_words, done_words}
-use Rattle.scenario_lines.specs.Weight.{frame_size, link_size, declared_size, happening_size}
+use Rattle.scenario_lines.specs.PrintedLen.{frame_size, link_size, declared_size, happening_size}
 use Rattle.scenario_lines.proofs.SizeLemmas.{size_append}
 use Rattle.scenario_lines.proofs.WeightLemmas.{sum_same}
 use Rattle.scenario_parts.specs.Printed.{lines_text, link_text, first_text, declared_text, happening_text, text_of}
-use Rattle.scenario_parts.specs.Lengths.{Leaves}
+use Rattle.scenario_parts.specs.Lengths.{LeavesRoom}
 
 -- One part takes more than is left, so all take more than there was.
 pub ran_out : {X : Type 0} (f : X → ℕ) (xs : List X) (i : ℕ) (d : X) (room left : ℕ) → i < length xs → left + sum_by f (take i xs) ≡ room → (f (get_or xs i d) ≤ left → ⊥) → room < sum_by f xs
@@ -99,7 +99,7 @@ text_size w = omega (arith, length-append (first_text w) (declared_text w ++ hap
 pub over_text : (w : Scenario) (frame : ℕ) → frame ≡ frame_size Done w.shape w.pick → frame ≤ 16777216 → 16777216 - frame < declared_size w.hosts w.switches w.flows → 16777216 < length (text_of w)
 over_text w frame is few over = omega (arith, text_size w, is, few, over)
 
--- What is left behind the frame, the declarations, and the steps and the asks.
-pub text_leaves : (w : Scenario) (frame room : ℕ) (o : Option ℕ) → frame ≡ frame_size Done w.shape w.pick → frame ≤ 16777216 → room + declared_size w.hosts w.switches w.flows ≡ 16777216 - frame → Leaves room (happening_size w.switches w.flows w.steps w.asks) o → Leaves 16777216 (length (text_of w)) o
+-- What is left after the frame, the declarations, and the steps and the asks.
+pub text_leaves : (w : Scenario) (frame room : ℕ) (o : Option ℕ) → frame ≡ frame_size Done w.shape w.pick → frame ≤ 16777216 → room + declared_size w.hosts w.switches w.flows ≡ 16777216 - frame → LeavesRoom room (happening_size w.switches w.flows w.steps w.asks) o → LeavesRoom 16777216 (length (text_of w)) o
 text_leaves w frame room (Some left) is few declared happening = omega (arith, text_size w, is, few, declared, happening)
 text_leaves w frame room None is few declared happening = omega (arith, text_size w, is, few, declared, happening)

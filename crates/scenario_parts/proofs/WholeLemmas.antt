@@ -3,7 +3,7 @@ use Rattle.std.proofs.Common.{◌≤◌, ℕ, Option, Some, None, length, refl, 
 use Rattle.std.specs.Prelude.{Decides}
 use Rattle.std.specs.Option.{is_some}
 use Rattle.lg_model.specs.Scenario.{Scenario}
-use Rattle.scenario_parts.specs.Lengths.{Leaves}
+use Rattle.scenario_parts.specs.Lengths.{LeavesRoom}
 use Rattle.scenario_parts.specs.Lists.{AreDeclared, AreNamed, AreSteps, AreAsks}
 use Rattle.scenario_parts.specs.Parts.{AreRanges}
 use Rattle.scenario_parts.specs.Printed.{text_of}
@@ -39,6 +39,6 @@ whole_is w ranges declared happening short = record {
 }
 
 -- With what is left of the room for its text.
-pub whole_by_room : (w : Scenario) (o : Option ℕ) → AreRanges w → AreDeclared w.hosts w.switches w.flows × AreNamed w.hosts w.switches w.flows → AreSteps w.switches w.flows w.steps × AreAsks w.switches w.flows w.asks → Leaves 16777216 (length (text_of w)) o → Decides (is_some o) (IsWhole w)
+pub whole_by_room : (w : Scenario) (o : Option ℕ) → AreRanges w → AreDeclared w.hosts w.switches w.flows × AreNamed w.hosts w.switches w.flows → AreSteps w.switches w.flows w.steps × AreAsks w.switches w.flows w.asks → LeavesRoom 16777216 (length (text_of w)) o → Decides (is_some o) (IsWhole w)
 whole_by_room w (Some left) ranges declared happening leaves = (λ _. whole_is w ranges declared happening (omega (arith, leaves)), λ _. refl)
 whole_by_room w None ranges declared happening leaves = (λ e. absurd cc, λ whole. absurd (omega (arith, leaves, whole.short)))

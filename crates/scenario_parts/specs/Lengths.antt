@@ -9,6 +9,6 @@ abbrev pub lines_size : {X : Type 0} → (X → Words) → List X → ℕ
 lines_size words xs = sum_by (λ x. size (words x)) xs
 
 -- What is left of some bytes where some are taken away; nothing where they are fewer.
-abbrev pub Leaves : ℕ → ℕ → Option ℕ → Type 0
-Leaves held taken (Some left) = left + taken ≡ held
-Leaves held taken None = held < taken
+abbrev pub LeavesRoom : ℕ → ℕ → Option ℕ → Type 0
+LeavesRoom held taken (Some left) = left + taken ≡ held
+LeavesRoom held taken None = held < taken

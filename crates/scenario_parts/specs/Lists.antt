@@ -1,5 +1,6 @@
 -- What is tested of the lists of some parts.
 use Rattle.std.specs.Prelude.{ℕ, ◌<◌, ◌≤◌, List, length, All}
+use Rattle.lg_model.specs.declared.limits.TheConstants.{MOST_HOSTS, MOST_SWITCHES, MOST_FLOWS, MOST_PACKETS, MOST_ENDS, MOST_ASKS}
 use Rattle.lg_model.specs.declared.scenario.HostLine.{HostLine}
 use Rattle.lg_model.specs.declared.scenario.Flow.{Flow}
 use Rattle.lg_model.specs.declared.scenario.Step.{Step}
@@ -11,9 +12,9 @@ use Rattle.scenario_lines.specs.Readable.{AreApart, IsHostLine, IsFlowLine, IsSt
 
 -- Hosts, switches and flows are not too many, and flows end and go where something is.
 pub record AreDeclared (hosts : List HostLine) (switches : List ℕ) (flows : List Flow) : Type 0 where
-  pub few_hosts : length hosts ≤ 64
-  pub few_switches : length switches ≤ 64
-  pub few_flows : length flows ≤ 4096
+  pub few_hosts : length hosts ≤ MOST_HOSTS
+  pub few_switches : length switches ≤ MOST_SWITCHES
+  pub few_flows : length flows ≤ MOST_FLOWS
   pub hosts_fit : All IsHostLine hosts
   pub flows_fit : All (λ f. IsFlow (length hosts) (length switches) f × IsFlowLine f) flows
 
@@ -26,10 +27,10 @@ pub record AreNamed (hosts : List HostLine) (switches : List ℕ) (flows : List 
 -- Steps speak of what is there, and have not too many packets and ends.
 pub record AreSteps (switches : List ℕ) (flows : List Flow) (steps : List Step) : Type 0 where
   pub steps_fit : All (λ t. IsStep (length switches) flows t × IsStepLine t) steps
-  pub few_packets : packet_count steps ≤ 1000000
-  pub few_ends : (s : ℕ) → s < length switches → ends_of s steps ≤ 65535
+  pub few_packets : packet_count steps ≤ MOST_PACKETS
+  pub few_ends : (s : ℕ) → s < length switches → ends_of s steps ≤ MOST_ENDS
 
 -- Asks are about what is there, and not too many.
 pub record AreAsks (switches : List ℕ) (flows : List Flow) (asks : List Ask) : Type 0 where
-  pub few_asks : length asks ≤ 10000
+  pub few_asks : length asks ≤ MOST_ASKS
   pub asks_fit : All (λ q. IsAsk flows q × IsAskLine switches q) asks

@@ -9,7 +9,7 @@ use Rattle.lg_model.specs.declared.scenario.Step.TheVariants as steps
 use Rattle.lg_model.specs.declared.scenario.Ask.{Ask}
 use Rattle.lg_model.specs.Placing.{IsShape}
 use Rattle.lg_model.specs.Scenario.{Scenario}
-use Rattle.scenario_lines.specs.Readable.{IsHash, IsPick}
+use Rattle.scenario_lines.specs.Readable.{IsHashRange, IsPickRange}
 
 -- ---- ranges
 
@@ -38,8 +38,8 @@ IsAskRange q = (q.switch < 65536) × (q.epoch < 4294967296)
 -- The numbers of all parts are in the ranges of their fields, as the types of the parts have it.
 pub record AreRanges (w : Scenario) : Type 0 where
   pub shape : IsShape w.shape.rows w.shape.width
-  pub hash : IsHash w.shape.hash
-  pub pick : IsPick w.pick
+  pub hash : IsHashRange w.shape.hash
+  pub pick : IsPickRange w.pick
   pub hosts : All (λ h. h.name < 65536) w.hosts
   pub switches : All (λ n. n < 65536) w.switches
   pub flows : All IsFlowRange w.flows
@@ -49,25 +49,25 @@ pub record AreRanges (w : Scenario) : Type 0 where
 -- ---- positions
 
 -- A flow's host and the switches of its path are there.
-abbrev pub IsFlowPlace : (hosts switches : ℕ) → Flow → Type 0
-IsFlowPlace hosts switches f = (f.host_at < hosts) × (All (λ s. s < switches) f.path)
+abbrev pub IsFlowInRange : (hosts switches : ℕ) → Flow → Type 0
+IsFlowInRange hosts switches f = (f.host_at < hosts) × (All (λ s. s < switches) f.path)
 
 -- The switch of an end is there.
-abbrev pub IsEndPlace : (switches : ℕ) → Step → Type 0
-IsEndPlace switches (steps.Packet _ _ _ _ _) = Unit {0}
-IsEndPlace switches (steps.End at) = at < switches
-IsEndPlace switches steps.EndAll = Unit {0}
-IsEndPlace switches steps.Release = Unit {0}
+abbrev pub IsEndInRange : (switches : ℕ) → Step → Type 0
+IsEndInRange switches (steps.Packet _ _ _ _ _) = Unit {0}
+IsEndInRange switches (steps.End at) = at < switches
+IsEndInRange switches steps.EndAll = Unit {0}
+IsEndInRange switches steps.Release = Unit {0}
 
 -- The flow of a packet or the switch of an end is there.
-abbrev pub IsStepPlace : (flows switches : ℕ) → Step → Type 0
-IsStepPlace flows switches (steps.Packet at _ _ _ _) = at < flows
-IsStepPlace flows switches (steps.End at) = at < switches
-IsStepPlace flows switches steps.EndAll = Unit {0}
-IsStepPlace flows switches steps.Release = Unit {0}
+abbrev pub IsStepInRange : (flows switches : ℕ) → Step → Type 0
+IsStepInRange flows switches (steps.Packet at _ _ _ _) = at < flows
+IsStepInRange flows switches (steps.End at) = at < switches
+IsStepInRange flows switches steps.EndAll = Unit {0}
+IsStepInRange flows switches steps.Release = Unit {0}
 
 -- The positions in all parts are in range.
-pub record ArePlaces (w : Scenario) : Type 0 where
-  pub flows : All (IsFlowPlace (length w.hosts) (length w.switches)) w.flows
-  pub steps : All (IsStepPlace (length w.flows) (length w.switches)) w.steps
+pub record AreInRange (w : Scenario) : Type 0 where
+  pub flows : All (IsFlowInRange (length w.hosts) (length w.switches)) w.flows
+  pub steps : All (IsStepInRange (length w.flows) (length w.switches)) w.steps
   pub asks : All (λ q. q.flow_at < length w.flows) w.asks

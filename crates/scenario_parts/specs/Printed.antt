@@ -14,7 +14,7 @@ lines_text words xs = flat_map (λ x. line_text (words x)) xs
 abbrev pub link_text : HostLine → List ℕ
 link_text h = if length h.letters == 0 then [] else line_text (link_words h)
 
--- The three first lines.
+-- The first three lines.
 abbrev pub first_text : Scenario → List ℕ
 first_text w = line_text guardian_words ++ (line_text (shape_line_words w.shape) ++ line_text (pick_line_words w.pick))
 
@@ -26,7 +26,7 @@ declared_text w = lines_text host_words w.hosts ++ (lines_text switch_words w.sw
 abbrev pub happening_text : Scenario → List ℕ
 happening_text w = lines_text (step_words w.flows w.switches) w.steps ++ (lines_text (ask_words w.flows) w.asks ++ line_text done_words)
 
--- The text of a scenario: the three first lines, the declarations, the steps and the asks, each in the order of the
+-- The text of a scenario: the first three lines, the declarations, the steps and the asks, each in the order of the
 -- scenario, and `done`; every line ends with 0A.
 abbrev pub text_of : Scenario → List ℕ
 text_of w = first_text w ++ (declared_text w ++ happening_text w)

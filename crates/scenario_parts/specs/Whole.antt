@@ -1,5 +1,6 @@
 -- What a scenario keeps.
 use Rattle.std.specs.Prelude.{◌≤◌, length}
+use Rattle.lg_model.specs.declared.limits.TheConstants.{MOST_TEXT_BYTES}
 use Rattle.lg_model.specs.Scenario.{Scenario, IsScenario}
 use Rattle.scenario_lines.specs.Readable.{IsReadable}
 use Rattle.scenario_parts.specs.Printed.{text_of}
@@ -8,4 +9,4 @@ use Rattle.scenario_parts.specs.Printed.{text_of}
 pub record IsWhole (w : Scenario) : Type 0 where
   pub fits : IsScenario w
   pub lines : IsReadable w
-  pub short : length (text_of w) ≤ 16777216
+  pub short : length (text_of w) ≤ MOST_TEXT_BYTES

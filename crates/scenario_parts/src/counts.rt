@@ -1,10 +1,12 @@
 //! Whether the packets and the ends of steps keep their limits.
 ghost use Rattle.std.specs.Prelude.{◌≡◌, ◌+◌, ◌<◌, ◌≤◌, ℕ, All, length, slice_index, Decides};
+ghost use Rattle.lg_model.specs.declared.limits.TheConstants.{MOST_SWITCHES, MOST_PACKETS, MOST_ENDS};
 ghost use Rattle.lg_model.specs.Scenario.{burst_of, packet_count};
 ghost use Rattle.scenario_lines.specs.Counts.{ends_of};
-ghost use Rattle.scenario_parts.specs.Parts.{IsEndPlace};
+ghost use Rattle.scenario_parts.specs.Parts.{IsEndInRange};
 
 use lg_model::Step;
+use lg_model::limits::{MOST_ENDS, MOST_PACKETS, MOST_SWITCHES};
 
 fn burst_in(step: &Step) -> u32
     ensures { result ≡ burst_of step.now }
@@ -17,12 +19,12 @@ fn burst_in(step: &Step) -> u32
 
 // Whether the steps send at most 1,000,000 packets.
 pub(crate) fn are_few_packets(steps: &[Step]) -> bool
-    ensures { Decides result (packet_count steps.now ≤ 1000000) }
+    ensures { Decides result (packet_count steps.now ≤ MOST_PACKETS) }
 {
     let mut packets: u64 = 0;
     for step in steps {
         packets += u64::from(burst_in(step));
-        if packets > 1_000_000 {
+        if packets > u64::from(MOST_PACKETS) {
             return false;
         }
     }
@@ -31,11 +33,11 @@ pub(crate) fn are_few_packets(steps: &[Step]) -> bool
 
 // Whether the steps end at most 65,535 epochs of each of the first switches.
 pub(crate) fn are_few_ends(switches: &[u16], steps: &[Step]) -> bool
-    requires few { length switches.now ≤ 64 }
-    requires places { All (IsEndPlace (length switches.now)) steps.now }
-    ensures { Decides result ((s : ℕ) → s < length switches.now → ends_of s steps.now ≤ 65535) }
+    requires few { length switches.now ≤ MOST_SWITCHES }
+    requires positions { All (IsEndInRange (length switches.now)) steps.now }
+    ensures { Decides result ((s : ℕ) → s < length switches.now → ends_of s steps.now ≤ MOST_ENDS) }
 {
-    let mut ends = [0; 64];
+    let mut ends = [0; MOST_SWITCHES];
     let mut ends_of_all: u64 = 0;
     for step in steps {
         match step {
@@ -46,7 +48,7 @@ pub(crate) fn are_few_ends(switches: &[u16], steps: &[Step]) -> bool
         }
     }
     for at in 0..switches.len() {
-        if ends[at] + ends_of_all > 65535 {
+        if ends[at] + ends_of_all > u64::from(MOST_ENDS) {
             return false;
         }
     }

@@ -6,6 +6,7 @@ ghost use Rattle.scenario_lines.specs.Readable.{AreApart, IsHostLine, IsFlowLine
 ghost use Rattle.scenario_parts.specs.Parts.{IsFlowRange, IsStepRange, IsAskRange};
 
 use crate::apart::are_apart;
+use lg_model::limits::{MOST_HOPS, MOST_LETTERS};
 use lg_model::{Ask, Fate, Flow, HostLine, Step};
 
 // Whether each host has at most 4,096 letters.
@@ -14,7 +15,7 @@ pub(crate) fn hosts_fit(hosts: &[HostLine]) -> bool
     ensures { Decides result (All IsHostLine hosts.now) }
 {
     for host in hosts {
-        if host.letters.items().len() > 4096 {
+        if host.letters.items().len() > MOST_LETTERS {
             return false;
         }
     }
@@ -35,7 +36,7 @@ fn is_flow(hosts: usize, switches: usize, flow: &Flow) -> bool
     let path = flow.path.items();
     (flow.host_at as usize) < hosts
         && path.len() >= 1
-        && path.len() <= 16
+        && path.len() <= MOST_HOPS
         && are_within(path, switches)
         && are_apart(path)
 }

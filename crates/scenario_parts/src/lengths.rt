@@ -2,11 +2,12 @@
 ghost use Rattle.std.specs.Prelude.{◌≡◌, ◌+◌, ◌*◌, ◌<◌, ◌≤◌, [], All, length, map};
 ghost use Rattle.std.specs.Fmt.{decimal};
 ghost use Rattle.flow_key.specs.KeyText.{dotted};
+ghost use Rattle.lg_model.specs.declared.limits.TheConstants.{MOST_HOPS};
 ghost use Rattle.lg_model.specs.Scenario.{IsFlow, IsStep, IsAsk};
 ghost use Rattle.scenario_lines.specs.Readable.{IsHostLine};
 ghost use Rattle.text_out.specs.Shapes.{hash_words};
 ghost use Rattle.scenario_lines.specs.Spelling.{size, key_parts, pick_words, burst_words, fate_words, shape_line_words, pick_line_words, host_words, switch_words, path_words, flow_words, step_words, ask_words};
-ghost use Rattle.scenario_lines.specs.Weight.{link_size};
+ghost use Rattle.scenario_lines.specs.PrintedLen.{link_size};
 
 use flow_key::FlowKey;
 use lg_model::{Ask, Fate, Flow, Hash, HostLine, Pick, Step};
@@ -20,7 +21,7 @@ fn digits(n: u64) -> usize
     if n < 10 { 1 } else { digits(n / 10) + 1 }
 }
 
-// A number and one byte behind it.
+// A number and one byte after it.
 fn number_len(n: u64) -> usize
     ensures value { result ≡ length (decimal n) + 1 }
     ensures bound { result ≤ 21 }
@@ -28,7 +29,7 @@ fn number_len(n: u64) -> usize
     digits(n) + 1
 }
 
-// An address and one byte behind it.
+// An address and one byte after it.
 fn address_len(address: [u8; 4]) -> usize
     ensures value { result ≡ length (dotted address) + 1 }
     ensures bound { result ≤ 84 }
@@ -93,7 +94,7 @@ pub(crate) fn switch_len(name: u16) -> usize
 // The names of the switches of a path. A path has at most 16, so the calls are at most 17 deep.
 fn path_len(switches: &[u16], path: &[u16]) -> usize
     requires within { All (λ at. at < length switches.now) path.now }
-    requires short { length path.now ≤ 16 }
+    requires short { length path.now ≤ MOST_HOPS }
     ensures value { result ≡ size (path_words switches.now path.now) }
     ensures bound { result ≤ 21 * length path.now }
 {
@@ -128,7 +129,7 @@ pub(crate) fn link_len(host: &HostLine) -> usize
 
 // The delays of a packet. They are at most 16, so the calls are at most 17 deep.
 fn delays_len(delays: &[u32]) -> usize
-    requires { length delays.now ≤ 16 }
+    requires { length delays.now ≤ MOST_HOPS }
     ensures value { result ≡ size (map decimal delays.now) }
     ensures bound { result ≤ 21 * length delays.now }
 {
@@ -163,7 +164,7 @@ fn fate_len(fate: Fate) -> usize
 
 pub(crate) fn step_len(flows: &[Flow], switches: &[u16], step: &Step) -> usize
     requires fits { IsStep (length switches.now) flows.now step.now }
-    requires short { All (λ f. length f.path ≤ 16) flows.now }
+    requires short { All (λ f. length f.path ≤ MOST_HOPS) flows.now }
     ensures value { result ≡ size (step_words flows.now switches.now step.now) }
 {
     match step {

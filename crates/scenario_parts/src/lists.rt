@@ -1,11 +1,13 @@
 //! Whether the lists of some parts fit each other and keep their limits.
 ghost use Rattle.std.specs.Prelude.{◌<◌, ◌≤◌, All, length, Decides};
+ghost use Rattle.lg_model.specs.declared.limits.TheConstants.{MOST_SWITCHES};
 ghost use Rattle.scenario_parts.specs.Lists.{AreDeclared, AreNamed, AreSteps, AreAsks};
 ghost use Rattle.scenario_parts.specs.Parts.{IsFlowRange, IsStepRange, IsAskRange};
 
 use crate::apart::{are_apart, are_flows_apart, are_hosts_apart};
 use crate::counts::{are_few_ends, are_few_packets};
 use crate::fits::{asks_fit, flows_fit, hosts_fit, steps_fit};
+use lg_model::limits::{MOST_FLOWS, MOST_HOSTS, MOST_SWITCHES};
 use lg_model::{Ask, Flow, HostLine, Step};
 
 fn declarations_fit(hosts: &[HostLine], switches: &[u16], flows: &[Flow]) -> bool
@@ -13,9 +15,9 @@ fn declarations_fit(hosts: &[HostLine], switches: &[u16], flows: &[Flow]) -> boo
     requires flows { All IsFlowRange flows.now }
     ensures { Decides result (AreDeclared hosts.now switches.now flows.now) }
 {
-    hosts.len() <= 64
-        && switches.len() <= 64
-        && flows.len() <= 4096
+    hosts.len() <= MOST_HOSTS
+        && switches.len() <= MOST_SWITCHES
+        && flows.len() <= MOST_FLOWS
         && hosts_fit(hosts)
         && flows_fit(hosts.len(), switches.len(), flows)
 }
@@ -37,7 +39,7 @@ pub(crate) fn are_declared(hosts: &[HostLine], switches: &[u16], flows: &[Flow])
 
 fn are_steps(switches: &[u16], flows: &[Flow], steps: &[Step]) -> bool
     requires ranges { All IsStepRange steps.now }
-    requires few { length switches.now ≤ 64 }
+    requires few { length switches.now ≤ MOST_SWITCHES }
     ensures { Decides result (AreSteps switches.now flows.now steps.now) }
 {
     if !steps_fit(switches, flows, steps) {
@@ -60,7 +62,7 @@ fn are_asks(switches: &[u16], flows: &[Flow], asks: &[Ask]) -> bool
 pub(crate) fn are_happening(switches: &[u16], flows: &[Flow], steps: &[Step], asks: &[Ask]) -> bool
     requires steps { All IsStepRange steps.now }
     requires asks { All IsAskRange asks.now }
-    requires few { length switches.now ≤ 64 }
+    requires few { length switches.now ≤ MOST_SWITCHES }
     ensures { Decides result (AreSteps switches.now flows.now steps.now × AreAsks switches.now flows.now asks.now) }
 {
     are_steps(switches, flows, steps) && are_asks(switches, flows, asks)

@@ -1,10 +1,11 @@
 //! The parts of a scenario together.
 ghost use Rattle.std.specs.Prelude.{◌≡◌, ◌≤◌, All, length, Decides};
+ghost use Rattle.lg_model.specs.declared.limits.TheConstants.{MOST_TEXT_BYTES, MOST_SWITCHES};
 ghost use Rattle.lg_model.specs.Scenario.{IsFlow, IsStep, IsAsk};
 ghost use Rattle.scenario_lines.specs.declared.section.Section.TheVariants.{Done};
 ghost use Rattle.scenario_lines.specs.Readable.{IsHostLine};
-ghost use Rattle.scenario_lines.specs.Weight.{frame_size, declared_size, happening_size};
-ghost use Rattle.scenario_parts.specs.Lengths.{Leaves};
+ghost use Rattle.scenario_lines.specs.PrintedLen.{frame_size, declared_size, happening_size};
+ghost use Rattle.scenario_parts.specs.Lengths.{LeavesRoom};
 ghost use Rattle.scenario_parts.specs.Lists.{AreDeclared, AreNamed, AreSteps, AreAsks};
 ghost use Rattle.scenario_parts.specs.Parts.{AreRanges};
 ghost use Rattle.scenario_parts.specs.Printed.{text_of};
@@ -16,12 +17,10 @@ use crate::ranges::{
     ask_ranges, flow_ranges, hash_range, host_ranges, pick_range, step_ranges, switch_ranges,
 };
 use crate::sums::{without_declared, without_happening};
+use lg_model::limits::MOST_TEXT_BYTES;
 use lg_model::{Ask, Flow, HostLine, Pick, Step};
 use row_hash::Shape;
 use std::marker::Model;
-
-// The most bytes of a text.
-const MOST_BYTES: usize = 16_777_216;
 
 /// What may be the parts of a scenario (docs/FORMATS.md, Scenario text). Steps and asks name flows by their positions,
 /// flows name hosts and switches so, and an ask names its switch by its name.
@@ -73,13 +72,13 @@ impl Parts {
 
     fn is_happening(&self) -> bool
         requires ranges { AreRanges self.now }
-        requires few { length self.now.switches ≤ 64 }
+        requires few { length self.now.switches ≤ MOST_SWITCHES }
         ensures { Decides result (AreSteps self.now.switches self.now.flows self.now.steps × AreAsks self.now.switches self.now.flows self.now.asks) }
     {
         are_happening(&self.switches, &self.flows, &self.steps, &self.asks)
     }
 
-    // The bytes of the three first lines and of the last.
+    // The bytes of the first three lines and of the last.
     fn frame_len(&self) -> usize
         ensures value { result ≡ frame_size Done self.now.shape self.now.pick }
         ensures bound { result ≤ 124 }
@@ -90,7 +89,7 @@ impl Parts {
     fn without_declared(&self, room: usize) -> Option<usize>
         requires hosts { All IsHostLine self.now.hosts }
         requires flows { All (IsFlow (length self.now.hosts) (length self.now.switches)) self.now.flows }
-        ensures { Leaves room (declared_size self.now.hosts self.now.switches self.now.flows) result }
+        ensures { LeavesRoom room (declared_size self.now.hosts self.now.switches self.now.flows) result }
     {
         without_declared(room, &self.hosts, &self.switches, &self.flows)
     }
@@ -99,7 +98,7 @@ impl Parts {
         requires flows { All (IsFlow (length self.now.hosts) (length self.now.switches)) self.now.flows }
         requires steps { All (IsStep (length self.now.switches) self.now.flows) self.now.steps }
         requires asks { All (IsAsk self.now.flows) self.now.asks }
-        ensures { Leaves room (happening_size self.now.switches self.now.flows self.now.steps self.now.asks) result }
+        ensures { LeavesRoom room (happening_size self.now.switches self.now.flows self.now.steps self.now.asks) result }
     {
         without_happening(room, &self.switches, &self.flows, &self.steps, &self.asks)
     }
@@ -110,9 +109,9 @@ impl Parts {
         requires flows { All (IsFlow (length self.now.hosts) (length self.now.switches)) self.now.flows }
         requires steps { All (IsStep (length self.now.switches) self.now.flows) self.now.steps }
         requires asks { All (IsAsk self.now.flows) self.now.asks }
-        ensures { Leaves 16777216 (length (text_of self.now)) result }
+        ensures { LeavesRoom MOST_TEXT_BYTES (length (text_of self.now)) result }
     {
-        let room = self.without_declared(MOST_BYTES - self.frame_len())?;
+        let room = self.without_declared(MOST_TEXT_BYTES - self.frame_len())?;
         self.without_happening(room)
     }
 

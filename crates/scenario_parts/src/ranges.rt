@@ -2,14 +2,14 @@
 //! its loop is left when it is compiled.
 ghost use Rattle.std.specs.Prelude.{◌<◌, All};
 ghost use Rattle.flow_key.specs.KeyText.{Fits};
-ghost use Rattle.scenario_lines.specs.Readable.{IsHash, IsPick};
+ghost use Rattle.scenario_lines.specs.Readable.{IsHashRange, IsPickRange};
 ghost use Rattle.scenario_parts.specs.Parts.{IsFlowRange, IsFateRange, IsStepRange, IsAskRange};
 
 use flow_key::FlowKey;
 use lg_model::{Ask, Fate, Flow, Hash, HostLine, Pick, Step};
 
 pub(crate) fn hash_range(hash: Hash)
-    ensures { IsHash hash }
+    ensures { IsHashRange hash }
 {
     match hash {
         Hash::Ports => {}
@@ -18,7 +18,7 @@ pub(crate) fn hash_range(hash: Hash)
 }
 
 pub(crate) fn pick_range(pick: Pick)
-    ensures { IsPick pick }
+    ensures { IsPickRange pick }
 {
     match pick {
         Pick::Turns => {}

@@ -6,16 +6,17 @@ use Rattle.std.proofs.lemmas.List.{take-take, take_all}
 use Rattle.std.proofs.lemmas.List.Elements.{All-nil, All-cons}
 use Rattle.std.proofs.lemmas.List.Splits.{slice_split_none}
 use Rattle.flow_key.specs.Words.{words_at}
+use Rattle.lg_model.specs.declared.limits.TheConstants.{MOST_TEXT_BYTES}
 use Rattle.scenario_lines.specs.declared.why.Why.{Why}
 use Rattle.scenario_lines.specs.Sections.{is_done}
 use Rattle.scenario_lines.specs.Draft.{State, start, scenario_of}
 use Rattle.scenario_lines.specs.Line.{line_of}
-use Rattle.scenario_text.specs.Text.{most_bytes, after_line, after_len, lines_say, reading, decide, deciding_len, deciding}
+use Rattle.scenario_text.specs.Text.{after_line, after_len, lines_say, reading, decide, deciding_len, deciding}
 use Rattle.scenario_text.specs.Reading.{IsUnbroken}
 use Rattle.scenario_text.proofs.ReaderLemmas.{ends}
 use Rattle.scenario_text.proofs.SpentLemmas.{decide_ends}
 
--- A text is one line, or a line and what stands behind its 0A.
+-- A text is one line, or a line and what follows its 0A.
 record Cut (xs : List ℕ) : Type 0 where
   line : List ℕ
   more : List ℕ
@@ -49,7 +50,7 @@ take_past (x ∷ line) more e =
 abbrev Front : List ℕ → Type 0
 Front xs = (b c : Bool) (n : ℕ) (s : State) → decide s (words_at 10 xs) < length xs → lines_say b n s (words_at 10 (take (decide s (words_at 10 xs)) xs)) ≡ lines_say c n s (words_at 10 xs)
 
--- what stands behind a line that was taken
+-- after a line that was taken
 behind : (b c : Bool) (n : ℕ) (more : List ℕ) (t : State) (d : Bool) → is_done t.section ≡ d → Front more → cond d 0 (decide t (words_at 10 more)) < suc (length more)
     → (d ≡ false → decide t (words_at 10 more) < length more)
     → cond d (Ok (scenario_of t)) (lines_say b n t (words_at 10 (take (cond d 0 (decide t (words_at 10 more))) more))) ≡ cond d (Ok (scenario_of t)) (lines_say c n t (words_at 10 more))
@@ -93,30 +94,30 @@ front_says (suc fuel) xs le = front_by fuel xs (front_says fuel) le (cut xs)
 
 -- ---- the whole input
 
-decided : (input : List ℕ) (d : ℕ) → d ≡ decide start (words_at 10 (take most_bytes input)) → d < length (take most_bytes input)
-    → lines_say (leb most_bytes (length (take d input))) 1 start (words_at 10 (take most_bytes (take d input))) ≡ lines_say (leb most_bytes (length input)) 1 start (words_at 10 (take most_bytes input))
+decided : (input : List ℕ) (d : ℕ) → d ≡ decide start (words_at 10 (take MOST_TEXT_BYTES input)) → d < length (take MOST_TEXT_BYTES input)
+    → lines_say (leb MOST_TEXT_BYTES (length (take d input))) 1 start (words_at 10 (take MOST_TEXT_BYTES (take d input))) ≡ lines_say (leb MOST_TEXT_BYTES (length input)) 1 start (words_at 10 (take MOST_TEXT_BYTES input))
 decided input d is lt =
-    let few : d ≤ most_bytes = omega (arith, lt, length-take most_bytes input) in
-    let front : take most_bytes (take d input) ≡ take d (take most_bytes input) = take_all most_bytes (take d input) (omega (arith, few, length-take d input)) ∙ sym (take-take d most_bytes input few) in
-    ap (λ (ys : List ℕ). lines_say (leb most_bytes (length (take d input))) 1 start (words_at 10 ys)) (front ∙ ap (λ (m : ℕ). take m (take most_bytes input)) is)
-    ∙ front_says (length (take most_bytes input)) (take most_bytes input) (omega arith) (leb most_bytes (length (take d input))) (leb most_bytes (length input)) 1 start (rw is at lt)
+    let few : d ≤ MOST_TEXT_BYTES = omega (arith, lt, length-take MOST_TEXT_BYTES input) in
+    let front : take MOST_TEXT_BYTES (take d input) ≡ take d (take MOST_TEXT_BYTES input) = take_all MOST_TEXT_BYTES (take d input) (omega (arith, few, length-take d input)) ∙ sym (take-take d MOST_TEXT_BYTES input few) in
+    ap (λ (ys : List ℕ). lines_say (leb MOST_TEXT_BYTES (length (take d input))) 1 start (words_at 10 ys)) (front ∙ ap (λ (m : ℕ). take m (take MOST_TEXT_BYTES input)) is)
+    ∙ front_says (length (take MOST_TEXT_BYTES input)) (take MOST_TEXT_BYTES input) (omega arith) (leb MOST_TEXT_BYTES (length (take d input))) (leb MOST_TEXT_BYTES (length input)) 1 start (rw is at lt)
 
-undecided : (input : List ℕ) (d : ℕ) → length (take most_bytes input) ≤ d → (length input < most_bytes) ⊎ (most_bytes ≤ length input)
-    → lines_say (leb most_bytes (length (take d input))) 1 start (words_at 10 (take most_bytes (take d input))) ≡ lines_say (leb most_bytes (length input)) 1 start (words_at 10 (take most_bytes input))
+undecided : (input : List ℕ) (d : ℕ) → length (take MOST_TEXT_BYTES input) ≤ d → (length input < MOST_TEXT_BYTES) ⊎ (MOST_TEXT_BYTES ≤ length input)
+    → lines_say (leb MOST_TEXT_BYTES (length (take d input))) 1 start (words_at 10 (take MOST_TEXT_BYTES (take d input))) ≡ lines_say (leb MOST_TEXT_BYTES (length input)) 1 start (words_at 10 (take MOST_TEXT_BYTES input))
 undecided input d ge (inl less) =
-    ap (λ (ys : List ℕ). lines_say (leb most_bytes (length ys)) 1 start (words_at 10 (take most_bytes ys))) (take_all d input (omega (arith, ge, less, length-take most_bytes input)))
+    ap (λ (ys : List ℕ). lines_say (leb MOST_TEXT_BYTES (length ys)) 1 start (words_at 10 (take MOST_TEXT_BYTES ys))) (take_all d input (omega (arith, ge, less, length-take MOST_TEXT_BYTES input)))
 undecided input d ge (inr more) =
-    let most : most_bytes ≤ d = omega (arith, ge, more, length-take most_bytes input) in
-    let one : leb most_bytes (length (take d input)) ≡ true = le-leb _ _ (omega (arith, most, more, length-take d input)) in
-    let two : leb most_bytes (length input) ≡ true = le-leb _ _ more in
-    ap (λ (b : Bool). lines_say b 1 start (words_at 10 (take most_bytes (take d input)))) (one ∙ sym two)
-    ∙ ap (λ (ys : List ℕ). lines_say (leb most_bytes (length input)) 1 start (words_at 10 ys)) (take-take most_bytes d input most)
+    let most : MOST_TEXT_BYTES ≤ d = omega (arith, ge, more, length-take MOST_TEXT_BYTES input) in
+    let one : leb MOST_TEXT_BYTES (length (take d input)) ≡ true = le-leb _ _ (omega (arith, most, more, length-take d input)) in
+    let two : leb MOST_TEXT_BYTES (length input) ≡ true = le-leb _ _ more in
+    ap (λ (b : Bool). lines_say b 1 start (words_at 10 (take MOST_TEXT_BYTES (take d input)))) (one ∙ sym two)
+    ∙ ap (λ (ys : List ℕ). lines_say (leb MOST_TEXT_BYTES (length input)) 1 start (words_at 10 ys)) (take-take MOST_TEXT_BYTES d input most)
 
-prefix_by : (input : List ℕ) (d : ℕ) → d ≡ decide start (words_at 10 (take most_bytes input)) → (d < length (take most_bytes input)) ⊎ (length (take most_bytes input) ≤ d)
-    → lines_say (leb most_bytes (length (take d input))) 1 start (words_at 10 (take most_bytes (take d input))) ≡ lines_say (leb most_bytes (length input)) 1 start (words_at 10 (take most_bytes input))
+prefix_by : (input : List ℕ) (d : ℕ) → d ≡ decide start (words_at 10 (take MOST_TEXT_BYTES input)) → (d < length (take MOST_TEXT_BYTES input)) ⊎ (length (take MOST_TEXT_BYTES input) ≤ d)
+    → lines_say (leb MOST_TEXT_BYTES (length (take d input))) 1 start (words_at 10 (take MOST_TEXT_BYTES (take d input))) ≡ lines_say (leb MOST_TEXT_BYTES (length input)) 1 start (words_at 10 (take MOST_TEXT_BYTES input))
 prefix_by input d is (inl lt) = decided input d is lt
-prefix_by input d is (inr ge) = undecided input d ge (cases_lt (length input) most_bytes)
+prefix_by input d is (inr ge) = undecided input d ge (cases_lt (length input) MOST_TEXT_BYTES)
 
 pub prefix : (input : List ℕ) → reading (deciding input) ≡ reading input
 unfolding reading deciding_len
-prefix input = prefix_by input (decide start (words_at 10 (take most_bytes input))) refl (cases_lt (decide start (words_at 10 (take most_bytes input))) (length (take most_bytes input)))
+prefix input = prefix_by input (decide start (words_at 10 (take MOST_TEXT_BYTES input))) refl (cases_lt (decide start (words_at 10 (take MOST_TEXT_BYTES input))) (length (take MOST_TEXT_BYTES input)))

@@ -28,11 +28,11 @@ use Rattle.scenario_lines.specs.Readable.{AreApart, IsFlowLine}
 use Rattle.text_out.specs.Words.{Words, joined}
 use Rattle.scenario_lines.specs.Spelling.{host_words, switch_words, host_names, key_parts, path_words, flow_words, byte_of, link_words, burst_words, fate_words, step_words, ask_words}
 use Rattle.scenario_lines.specs.Draft.{State, IsDraft}
-use Rattle.scenario_lines.specs.Fields.{◌>>=◌, number, word, ended, fresh, known, place, fresh_host, fresh_flow, host_place, room, room_to, all_room, room_for_all, hop, path, is_letter, letters_word, delays, burst, fate}
+use Rattle.scenario_lines.specs.Fields.{◌>>=◌, number, word, no_more, fresh_name, known_name, position_of, fresh_host, fresh_flow, host_position, room, room_to, all_room, room_for_all, hop, path, is_letter, letters_word, delays, burst, fate}
 use Rattle.scenario_lines.specs.Line.{host_line, switch_line, flow_line, linked, unlinked, link_line, packet_line, end_one, end_all, end_line, ask_line, line_of}
 use Rattle.scenario_lines.proofs.ReadableLemmas.{apart_push}
 use Rattle.scenario_lines.proofs.ScenarioLemmas.{host_more, host_linked, switch_more, step_more, ask_more, end_fits, room_at}
-use Rattle.scenario_parts.specs.Parts.{IsFlowRange, IsFateRange, IsStepRange, IsAskRange, IsFlowPlace, IsStepPlace}
+use Rattle.scenario_parts.specs.Parts.{IsFlowRange, IsFateRange, IsStepRange, IsAskRange, IsFlowInRange, IsStepInRange}
 use Rattle.scenario_text.proofs.WordsAgain.{AreWords, words_append, number_word_is, numbers_are_words, number_read}
 use Rattle.scenario_text.proofs.NamesAgain.{name_found, thing_found, list_any-map}
 use Rattle.scenario_text.proofs.LinesAgain.{at_state, section_of, form_read, bare, host_are_words, host_read, switch_are_words, switch_read, key_read, path_are_words, flow_are_words_of, FlowFits, flow_read, link_are_words, link_read, get_seam, set_seam, place_seam, later, placed, delays_read, burst_if, PacketFits, packet_read, flow_found, not_word, no_number, end_are_words, end_read, end_all_read, release_read, ask_are_words, ask_read}
@@ -92,12 +92,12 @@ new_host : (hosts : List HostLine) (n : ℕ) (x : Unit {0}) → fresh_host hosts
 unfolding fresh_host
 new_host hosts n x h = let r = unless_read _ _ _ _ h in r.0
 
-new_name : (names : List ℕ) (n : ℕ) (x : Unit {0}) → fresh names n ≡ Ok x → list_any (λ m. eqb m n) names ≡ false
-unfolding fresh
+new_name : (names : List ℕ) (n : ℕ) (x : Unit {0}) → fresh_name names n ≡ Ok x → list_any (λ m. eqb m n) names ≡ false
+unfolding fresh_name
 new_name names n x h = let r = unless_read _ _ _ _ h in r.0
 
 pub host_leads : (w : Scenario) (h : HostLine) → IsDraft (at_state Declarations w) → h.name < 65536 → Leads (at_state Declarations w) (host_words h) (at_state Declarations (record w { hosts = w.hosts ++ bare h ∷ [] }))
-unfolding keyword_of host_line ended
+unfolding keyword_of host_line no_more
 host_leads w h ok small = (
   host_are_words h small,
   λ u line.
@@ -111,7 +111,7 @@ host_leads w h ok small = (
 )
 
 pub switch_leads : (w : Scenario) (n : ℕ) → IsDraft (at_state Declarations w) → n < 65536 → Leads (at_state Declarations w) (switch_words n) (at_state Declarations (record w { switches = w.switches ++ n ∷ [] }))
-unfolding keyword_of switch_line ended
+unfolding keyword_of switch_line no_more
 switch_leads w n ok small = (
   switch_are_words n small,
   λ u line.
@@ -126,9 +126,9 @@ switch_leads w n ok small = (
 
 -- ---- flows
 
--- The hop behind those so far goes by a switch that they don't go by, where they are fewer than 16.
+-- The hop after those so far goes by a switch that they don't go by, where they are fewer than 16.
 hop_good : (switches sofar : List ℕ) (at x : ℕ) → AreApart switches → at < length switches → slice_index switches at < 65536 → hop switches sofar (decimal (slice_index switches at)) ≡ Ok x → (x ≡ at) × (eqb (length sofar) 16 ≡ false) × (list_any (λ m. eqb m at) sofar ≡ false)
-unfolding hop place
+unfolding hop position_of
 hop_good switches sofar at x own lt small h =
     let found = rw (number_read 65535 (slice_index switches at) [] (lit< tt) (omega arith), name_found switches at own lt) at h in
     let short = unless_read (eqb (length sofar) 16) _ x _ found in
@@ -201,8 +201,8 @@ flow_draft w f ok fits line new few =
       no_steps = ok.no_steps;
     }
 
-pub flow_leads : (w : Scenario) (hosts : List HostLine) (f : Flow) → IsDraft (at_state Declarations w) → host_names w.hosts ≡ host_names hosts → IsFlowRange f → IsFlowPlace (length w.hosts) (length w.switches) f → Leads (at_state Declarations w) (flow_words hosts w.switches f) (at_state Declarations (record w { flows = w.flows ++ f ∷ [] }))
-unfolding keyword_of flow_line host_place word
+pub flow_leads : (w : Scenario) (hosts : List HostLine) (f : Flow) → IsDraft (at_state Declarations w) → host_names w.hosts ≡ host_names hosts → IsFlowRange f → IsFlowInRange (length w.hosts) (length w.switches) f → Leads (at_state Declarations w) (flow_words hosts w.switches f) (at_state Declarations (record w { flows = w.flows ++ f ∷ [] }))
+unfolding keyword_of flow_line host_position word
 flow_leads w hosts f ok names range within = (words_ok, read) where
   host : slice_index (host_names w.hosts) f.host_at < 65536
   host = names_small (λ (g : HostLine). g.name) w.hosts (λ i d lt. let l = ok.lines.hosts i d lt in l.name) f.host_at 0 (omega (arith, within.0, length-map w.hosts (λ (g : HostLine). g.name)))
@@ -251,7 +251,7 @@ few_letters ls x h =
 
 pub link_leads : (w : Scenario) (done rest : List HostLine) (h : HostLine) → IsDraft (at_state Declarations (record w { hosts = done ++ bare h ∷ rest })) → h.name < 65536 → 0 < length h.letters
     → Leads (at_state Declarations (record w { hosts = done ++ bare h ∷ rest })) (link_words h) (at_state Declarations (record w { hosts = done ++ h ∷ rest }))
-unfolding keyword_of link_line host_place unlinked ended
+unfolding keyword_of link_line host_position unlinked no_more
 link_leads w done rest h ok small some = (
   link_are_words h small,
   λ u line.
@@ -276,7 +276,7 @@ burst_words_are : (n : ℕ) (b : Bool) → eqb n 1 ≡ b → n < 4294967296 → 
 burst_words_are n true e small = rw e tt
 burst_words_are n false e small = rw e (refl, (number_word_is n (omega arith), tt))
 
--- The words behind the delays are no numbers.
+-- The words after the delays are no numbers.
 no_delay : (n : ℕ) (b : Bool) (x : Fate) (y : ℕ × Words) → eqb n 1 ≡ b → number 0 4294967295 (burst_words n ++ fate_words x) ≡ Ok y → ⊥
 unfolding number number_to is_number
 no_delay n false x y e h = let bad = rw e at h in cc
@@ -285,7 +285,7 @@ no_delay n true (fates.Lost k) y e h = let bad = rw e at h in cc
 no_delay n true fates.Twice y e h = let bad = rw e at h in cc
 no_delay n true fates.Late y e h = let bad = rw e at h in cc
 
--- A number is none of the words that may stand behind the delays.
+-- A number is none of the words that may stand after the delays.
 no_tail : (d : ℕ) (w : List ℕ) → d < 4294967296 → number_to 4294967295 w ≡ None → bytes_eq (decimal d) w ≡ false
 no_tail d w small none = by (bytes_eq (decimal d) w) refl where
   by : (b : Bool) → bytes_eq (decimal d) w ≡ b → b ≡ false
@@ -298,7 +298,7 @@ none_number : (number_to 4294967295 (codes "burst") ≡ None) × (number_to 4294
 unfolding number_to is_number
 none_number = (refl, refl, refl, refl)
 
--- Behind as many delays as there are hops no number may stand.
+-- After as many delays as there are hops no number may stand.
 stray : {A : Type 0} (hops d : ℕ) (ws : Words) (g : (ℕ × Words) → Fate → Result A Why) (u : A) → d < 4294967296 → (burst (decimal d ∷ ws) >>= (λ b. fate hops b.1 >>= g b)) ≡ Ok u → ⊥
 unfolding burst fate
 stray hops d ws g u small h =
@@ -349,7 +349,7 @@ packet_words_are name size ds n x named small delays few range =
     (refl, (number_word_is name (omega arith), (number_word_is size (omega arith), words_append (map decimal ds) (burst_words n ++ fate_words x) (numbers_are_words ds delays) tail)))
 
 packet_good : (b : Bool) (w : Scenario) (at size : ℕ) (ds : List ℕ) (n : ℕ) (x : Fate) (u : State) → IsDraft (at_state (section_of b) w) → at < length w.flows → IsStepRange (steps.Packet at size ds n x) → line_of (at_state (section_of b) w) (joined (step_words w.flows w.switches (steps.Packet at size ds n x))) ≡ Ok u → PacketFits w at size ds n x
-unfolding keyword_of packet_line place
+unfolding keyword_of packet_line position_of
 packet_good b w at size ds n x u ok lt range line =
     let name = flow_name_small w at ok.lines.flows lt in
     let short : length (path_at w.flows at) ≤ 16 = let f = ok.scenario.flows at no_flow lt in f.few_hops in
@@ -359,8 +359,8 @@ packet_good b w at size ds n x u ok lt range line =
     let delayed = rw (delays_read (path_at w.flows at) [] ds (burst_words n ++ fate_words x) range.1 hops) at sized in
     let some = both_read (burst (burst_words n ++ fate_words x)) _ u delayed in
     let sent = burst_range n x some.0 (eqb n 1) refl range.2 some.1 in
-    let ended = rw (burst_if n x (eqb n 1) refl sent.0 sent.1) at delayed in
-    let last = both_read (fate (length (path_at w.flows at)) (fate_words x)) _ u ended in
+    let told = rw (burst_if n x (eqb n 1) refl sent.0 sent.1) at delayed in
+    let last = both_read (fate (length (path_at w.flows at)) (fate_words x)) _ u told in
     let added : Fate → State = λ y. record (at_state (section_of b) w) { section = Steps; steps = w.steps ++ steps.Packet at size ds n y ∷ [] } in
     let room = both_read (room_to 1000000 (packet_count w.steps + n)) (λ fits. Ok (added last.0)) u last.2 in
     record {
@@ -385,7 +385,7 @@ packet_leads b w at size ds n x ok lt range = (
 )
 
 end_leads : (b : Bool) (w : Scenario) (at : ℕ) → IsDraft (at_state (section_of b) w) → at < length w.switches → Leads (at_state (section_of b) w) (step_words w.flows w.switches (steps.End at)) (at_state Steps (record w { steps = w.steps ++ steps.End at ∷ [] }))
-unfolding keyword_of end_line end_one place ended
+unfolding keyword_of end_line end_one position_of no_more
 end_leads b w at ok lt = let small : slice_index w.switches at < 65536 = ok.lines.switches at 0 lt in (
   end_are_words (slice_index w.switches at) small,
   λ u line.
@@ -401,7 +401,7 @@ unfolding room_for_all
 all_have_room ts n x h = if_read _ _ _ _ h
 
 end_all_leads : (b : Bool) (w : Scenario) → IsDraft (at_state (section_of b) w) → Leads (at_state (section_of b) w) (step_words w.flows w.switches steps.EndAll) (at_state Steps (record w { steps = w.steps ++ steps.EndAll ∷ [] }))
-unfolding keyword_of end_line end_all ended
+unfolding keyword_of end_line end_all no_more
 end_all_leads b w ok = (
   (refl, (refl, tt)),
   λ u line.
@@ -414,7 +414,7 @@ end_all_leads b w ok = (
 release_leads : (b : Bool) (w : Scenario) → IsDraft (at_state (section_of b) w) → Leads (at_state (section_of b) w) (step_words w.flows w.switches steps.Release) (at_state Steps (record w { steps = w.steps ++ steps.Release ∷ [] }))
 release_leads b w ok = ((refl, tt), λ u line. (release_read b w, step_more (at_state (section_of b) w) (w.steps ++ steps.Release ∷ []) steps.Release ok tt refl (omega (arith, ok.scenario.few_packets)) (λ i l. omega (arith, ok.scenario.few_ends i l)) tt))
 
-pub step_leads : (b : Bool) (w : Scenario) (t : Step) → IsDraft (at_state (section_of b) w) → IsStepRange t → IsStepPlace (length w.flows) (length w.switches) t → Leads (at_state (section_of b) w) (step_words w.flows w.switches t) (at_state Steps (record w { steps = w.steps ++ t ∷ [] }))
+pub step_leads : (b : Bool) (w : Scenario) (t : Step) → IsDraft (at_state (section_of b) w) → IsStepRange t → IsStepInRange (length w.flows) (length w.switches) t → Leads (at_state (section_of b) w) (step_words w.flows w.switches t) (at_state Steps (record w { steps = w.steps ++ t ∷ [] }))
 step_leads b w (steps.Packet at size ds n x) ok range within = packet_leads b w at size ds n x ok within range
 step_leads b w (steps.End at) ok range within = end_leads b w at ok within
 step_leads b w steps.EndAll ok range within = end_all_leads b w ok
@@ -422,18 +422,18 @@ step_leads b w steps.Release ok range within = release_leads b w ok
 
 -- ---- asks
 
-declared : (names : List ℕ) (n : ℕ) (x : Unit {0}) → known names n ≡ Ok x → list_any (λ m. eqb m n) names ≡ true
-unfolding known
+declared : (names : List ℕ) (n : ℕ) (x : Unit {0}) → known_name names n ≡ Ok x → list_any (λ m. eqb m n) names ≡ true
+unfolding known_name
 declared names n x h = if_read _ _ _ _ h
 
 pub ask_leads : (b : Bool) (w : Scenario) (q : Ask) → IsDraft (at_state (section_of b) w) → IsAskRange q → q.flow_at < length w.flows → Leads (at_state (section_of b) w) (ask_words w.flows q) (at_state Steps (record w { asks = w.asks ++ q ∷ [] }))
-unfolding keyword_of ask_line place ended
+unfolding keyword_of ask_line position_of no_more
 ask_leads b w q ok range lt = let name = flow_name_small w q.flow_at ok.lines.flows lt in (
   ask_are_words w q name range.0 range.1,
   λ u line.
       let form = sym (form_read (at_state (section_of b) w) (codes "ask") (decimal (slice_index (names_of w.flows) q.flow_at) ∷ decimal q.switch ∷ decimal q.epoch ∷ []) words.Ask refl (later b) refl (placed b words.Ask refl refl) (ask_are_words w q name range.0 range.1)) ∙ line in
       let found = rw (number_read 65535 (slice_index (names_of w.flows) q.flow_at) (decimal q.switch ∷ decimal q.epoch ∷ []) (lit< tt) (omega (arith, name)), flow_found w q.flow_at ok.lines.own_flows lt, number_read 65535 q.switch (decimal q.epoch ∷ []) (lit< tt) (omega (arith, range.0))) at form in
-      let here = both_read (known w.switches q.switch) _ u found in
+      let here = both_read (known_name w.switches q.switch) _ u found in
       let timed = rw (number_read 4294967295 q.epoch [] (lit< tt) (omega (arith, range.1))) at here.2 in
       let room = both_read (room 10000 (length w.asks)) _ u timed in
       let is = declared w.switches q.switch here.0 here.1 in

@@ -8,6 +8,7 @@ use Rattle.std.proofs.lemmas.List.{append-nil, length-map, map-append, take-appe
 use Rattle.std.proofs.lemmas.List.Elements.{All-take}
 use Rattle.std.proofs.lemmas.List.Splits.{length-slice_split, slice_split_none}
 use Rattle.flow_key.specs.Words.{words_at}
+use Rattle.lg_model.specs.declared.limits.TheConstants.{MOST_TEXT_BYTES}
 use Rattle.lg_model.specs.declared.scenario.HostLine.{HostLine}
 use Rattle.lg_model.specs.declared.scenario.Flow.{Flow}
 use Rattle.lg_model.specs.declared.scenario.Step.{Step}
@@ -16,15 +17,16 @@ use Rattle.lg_model.specs.Placing.{IsShape}
 use Rattle.lg_model.specs.Scenario.{Scenario}
 use Rattle.scenario_lines.specs.declared.why.Why.{Why}
 use Rattle.scenario_lines.specs.declared.section.Section.{Section}
-use Rattle.scenario_lines.specs.declared.section.Section.TheVariants.{First, Second, Third, Declarations, Steps}
+use Rattle.scenario_lines.specs.declared.section.Section.TheVariants as sections
+use Rattle.scenario_lines.specs.declared.section.Section.TheVariants.{Declarations, Steps}
 use Rattle.scenario_lines.specs.Sections.{is_done}
-use Rattle.scenario_lines.specs.Readable.{IsHash, IsPick}
+use Rattle.scenario_lines.specs.Readable.{IsHashRange, IsPickRange}
 use Rattle.text_out.specs.Words.{Words, joined}
 use Rattle.scenario_lines.specs.Spelling.{line_text, guardian_words, shape_line_words, pick_line_words, host_words, switch_words, flow_words, link_words, step_words, ask_words, done_words}
 use Rattle.scenario_lines.specs.Draft.{State, start, scenario_of, IsDraft}
 use Rattle.scenario_lines.specs.Line.{line_of}
-use Rattle.scenario_text.specs.Text.{Fault, after_line, lines_say, reading, most_bytes}
-use Rattle.scenario_parts.specs.Parts.{AreRanges, ArePlaces, IsFlowRange, IsStepRange, IsAskRange, IsFlowPlace, IsStepPlace}
+use Rattle.scenario_text.specs.Text.{Fault, after_line, lines_say, reading}
+use Rattle.scenario_parts.specs.Parts.{AreRanges, AreInRange, IsFlowRange, IsStepRange, IsAskRange, IsFlowInRange, IsStepInRange}
 use Rattle.scenario_parts.specs.Printed.{lines_text, link_text, first_text, declared_text, text_of}
 use Rattle.scenario_parts.specs.Whole.{IsWhole}
 use Rattle.scenario_text.proofs.WordsAgain.{AreWords, joined_plain, plain_unbroken, plain_bare}
@@ -37,7 +39,7 @@ use Rattle.scenario_text.proofs.GoodLines.{Leads, host_leads, switch_leads, flow
 abbrev pub Says : ℕ → State → List ℕ → Scenario → Type 0
 Says m s text q = (n : ℕ) × (lines_say (nat_le m (length text)) n s (words_at 10 (take m text)) ≡ Ok q)
 
--- What is known behind a piece of a text: it lies within the bytes that are looked at, the rest says the scenario, and
+-- What is known after a piece of a text: it lies within the bytes that are looked at, the rest says the scenario, and
 -- the parts so far fit each other.
 pub record Behind (m : ℕ) (piece : List ℕ) (t : State) (more : List ℕ) (q : Scenario) : Type 0 where
   pub left : ℕ
@@ -45,7 +47,7 @@ pub record Behind (m : ℕ) (piece : List ℕ) (t : State) (more : List ℕ) (q 
   pub says : Says left t more q
   pub draft : IsDraft t
 
--- A text that says a scenario from the first state on, and begins with this piece, says it from the second state on behind it.
+-- A text that says a scenario from the first state on, and begins with this piece, says it from the second state on after it.
 abbrev pub Passes : State → List ℕ → State → Type 0
 Passes s piece t = (m : ℕ) (more : List ℕ) (q : Scenario) → IsDraft s → Says m s (piece ++ more) q → Behind m piece t more q
 
@@ -55,7 +57,7 @@ after_read : (n : ℕ) (r : Result State Why) (next : State → Result Scenario 
 after_read n (Err why) next q h = absurd cc
 after_read n (Ok t) next q h = (t, refl, λ still. rw still at h)
 
--- A line behind which another part comes.
+-- A line that another part follows.
 line_said : (long : Bool) (n : ℕ) (s : State) (ws : Words) (parts : List (List ℕ)) (q : Scenario) → AreWords ws → 0 < length parts → lines_say long n s (joined ws ∷ parts) ≡ Ok q
     → (t : State) × (line_of s (joined ws) ≡ Ok t) × (is_done t.section ≡ false → lines_say long (n + 1) t parts ≡ Ok q)
 unfolding lines_say
@@ -75,7 +77,7 @@ line_within k s ws more q ok says =
     let said = line_said (nat_le k (length more)) says.0 s ws (words_at 10 (take k more)) q ok (omega (arith, length-slice_split (λ b. eqb b 10) (take k more))) here in
     (said.0, said.1, λ still. (says.0 + 1, said.2 still))
 
--- A line that has its end behind the bytes that are looked at says nothing.
+-- A line that has its end after the bytes that are looked at says nothing.
 line_beyond : (m : ℕ) (s : State) (ws : Words) (more : List ℕ) (q : Scenario) → AreWords ws → m < length (line_text ws) → Says m s (line_text ws ++ more) q → ⊥
 unfolding lines_say
 line_beyond m s ws more q ok less says =
@@ -118,7 +120,7 @@ both s t u a b one two = λ m more q ok says.
     let second = two first.left more q first.draft first.says in
     record { left = second.left; len = omega (arith, length-append a b, first.len, second.len); says = second.says; draft = second.draft }
 
--- The pieces of a list, where that of each element leads from the state behind those before it to the next.
+-- The pieces of a list, where that of each element leads from the state after those before it to the next.
 each_passes : {X : Type 0} (S : List X → List X → State) (piece : X → List ℕ) (all : List X)
     → ((done rest : List X) (x : X) → all ≡ done ++ x ∷ rest → Passes (S done (x ∷ rest)) (piece x) (S (done ++ x ∷ []) rest))
     → (done rest : List X) → all ≡ done ++ rest → Passes (S done rest) (flat_map piece rest) (S all [])
@@ -145,11 +147,11 @@ switches_pass w hosts ranges = each_passes (λ done rest. at_state Declarations 
       line_passes (at_state Declarations (so_far w hosts done [] [] [])) (at_state Declarations (so_far w hosts (done ++ n ∷ []) [] [] [])) (switch_words n) refl
       (λ ok. switch_leads (so_far w hosts done [] [] []) n ok (seam (λ m. m < 65536) w.switches done rest n is ranges.switches))
 
-flows_pass : (w : Scenario) → AreRanges w → ArePlaces w → Passes (at_state Declarations (so_far w (map bare w.hosts) w.switches [] [] [])) (lines_text (flow_words w.hosts w.switches) w.flows) (at_state Declarations (so_far w (map bare w.hosts) w.switches w.flows [] []))
-flows_pass w ranges places = each_passes (λ done rest. at_state Declarations (so_far w (map bare w.hosts) w.switches done [] [])) (λ f. line_text (flow_words w.hosts w.switches f)) w.flows one [] w.flows refl where
+flows_pass : (w : Scenario) → AreRanges w → AreInRange w → Passes (at_state Declarations (so_far w (map bare w.hosts) w.switches [] [] [])) (lines_text (flow_words w.hosts w.switches) w.flows) (at_state Declarations (so_far w (map bare w.hosts) w.switches w.flows [] []))
+flows_pass w ranges positions = each_passes (λ done rest. at_state Declarations (so_far w (map bare w.hosts) w.switches done [] [])) (λ f. line_text (flow_words w.hosts w.switches f)) w.flows one [] w.flows refl where
   one : (done rest : List Flow) (f : Flow) → w.flows ≡ done ++ f ∷ rest → Passes (at_state Declarations (so_far w (map bare w.hosts) w.switches done [] [])) (line_text (flow_words w.hosts w.switches f)) (at_state Declarations (so_far w (map bare w.hosts) w.switches (done ++ f ∷ []) [] []))
   one done rest f is =
-      let within : IsFlowPlace (length (map bare w.hosts)) (length w.switches) f = rw (length-map w.hosts bare) (seam (IsFlowPlace (length w.hosts) (length w.switches)) w.flows done rest f is places.flows) in
+      let within : IsFlowInRange (length (map bare w.hosts)) (length w.switches) f = rw (length-map w.hosts bare) (seam (IsFlowInRange (length w.hosts) (length w.switches)) w.flows done rest f is positions.flows) in
       line_passes (at_state Declarations (so_far w (map bare w.hosts) w.switches done [] [])) (at_state Declarations (so_far w (map bare w.hosts) w.switches (done ++ f ∷ []) [] [])) (flow_words w.hosts w.switches f) refl
       (λ ok. flow_leads (so_far w (map bare w.hosts) w.switches done [] []) w.hosts f ok (bare_names w.hosts) (seam IsFlowRange w.flows done rest f is ranges.flows) within)
 
@@ -172,15 +174,15 @@ links_pass w ranges = rw (append-nil w.hosts) at (each_passes (λ done rest. at_
 
 -- ---- steps and asks
 
-steps_pass : (w : Scenario) → AreRanges w → ArePlaces w → Passes (at_state Declarations (so_far w w.hosts w.switches w.flows [] [])) (lines_text (step_words w.flows w.switches) w.steps) (at_state (section_of (some w.steps)) (so_far w w.hosts w.switches w.flows w.steps []))
-steps_pass w ranges places = each_passes (λ done rest. at_state (section_of (some done)) (so_far w w.hosts w.switches w.flows done [])) (λ t. line_text (step_words w.flows w.switches t)) w.steps one [] w.steps refl where
+steps_pass : (w : Scenario) → AreRanges w → AreInRange w → Passes (at_state Declarations (so_far w w.hosts w.switches w.flows [] [])) (lines_text (step_words w.flows w.switches) w.steps) (at_state (section_of (some w.steps)) (so_far w w.hosts w.switches w.flows w.steps []))
+steps_pass w ranges positions = each_passes (λ done rest. at_state (section_of (some done)) (so_far w w.hosts w.switches w.flows done [])) (λ t. line_text (step_words w.flows w.switches t)) w.steps one [] w.steps refl where
   one : (done rest : List Step) (t : Step) → w.steps ≡ done ++ t ∷ rest → Passes (at_state (section_of (some done)) (so_far w w.hosts w.switches w.flows done [])) (line_text (step_words w.flows w.switches t)) (at_state (section_of (some (done ++ t ∷ []))) (so_far w w.hosts w.switches w.flows (done ++ t ∷ []) []))
   one done rest t is = rw (some_push done t)
       (line_passes (at_state (section_of (some done)) (so_far w w.hosts w.switches w.flows done [])) (at_state Steps (so_far w w.hosts w.switches w.flows (done ++ t ∷ []) [])) (step_words w.flows w.switches t) refl
-      (λ ok. step_leads (some done) (so_far w w.hosts w.switches w.flows done []) t ok (seam IsStepRange w.steps done rest t is ranges.steps) (seam (IsStepPlace (length w.flows) (length w.switches)) w.steps done rest t is places.steps)))
+      (λ ok. step_leads (some done) (so_far w w.hosts w.switches w.flows done []) t ok (seam IsStepRange w.steps done rest t is ranges.steps) (seam (IsStepInRange (length w.flows) (length w.switches)) w.steps done rest t is positions.steps)))
 
-asks_pass : (w : Scenario) → AreRanges w → ArePlaces w → Passes (at_state (section_of (some w.steps)) (so_far w w.hosts w.switches w.flows w.steps [])) (lines_text (ask_words w.flows) w.asks) (at_state (section_of (some w.steps || some w.asks)) w)
-asks_pass w ranges places = rw (no_or (some w.steps)) at (each_passes (λ done rest. at_state (section_of (some w.steps || some done)) (so_far w w.hosts w.switches w.flows w.steps done)) (λ q. line_text (ask_words w.flows q)) w.asks one [] w.asks refl) where
+asks_pass : (w : Scenario) → AreRanges w → AreInRange w → Passes (at_state (section_of (some w.steps)) (so_far w w.hosts w.switches w.flows w.steps [])) (lines_text (ask_words w.flows) w.asks) (at_state (section_of (some w.steps || some w.asks)) w)
+asks_pass w ranges positions = rw (no_or (some w.steps)) at (each_passes (λ done rest. at_state (section_of (some w.steps || some done)) (so_far w w.hosts w.switches w.flows w.steps done)) (λ q. line_text (ask_words w.flows q)) w.asks one [] w.asks refl) where
   no_or : (b : Bool) → (b || false) ≡ b
   no_or true = refl
   no_or false = refl
@@ -188,12 +190,12 @@ asks_pass w ranges places = rw (no_or (some w.steps)) at (each_passes (λ done r
   one : (done rest : List Ask) (q : Ask) → w.asks ≡ done ++ q ∷ rest → Passes (at_state (section_of (some w.steps || some done)) (so_far w w.hosts w.switches w.flows w.steps done)) (line_text (ask_words w.flows q)) (at_state (section_of (some w.steps || some (done ++ q ∷ []))) (so_far w w.hosts w.switches w.flows w.steps (done ++ q ∷ [])))
   one done rest q is = rw (some_push done q, or_some (some w.steps))
       (line_passes (at_state (section_of (some w.steps || some done)) (so_far w w.hosts w.switches w.flows w.steps done)) (at_state Steps (so_far w w.hosts w.switches w.flows w.steps (done ++ q ∷ []))) (ask_words w.flows q) refl
-      (λ ok. ask_leads (some w.steps || some done) (so_far w w.hosts w.switches w.flows w.steps done) q ok (seam IsAskRange w.asks done rest q is ranges.asks) (seam (λ a. a.flow_at < length w.flows) w.asks done rest q is places.asks)))
+      (λ ok. ask_leads (some w.steps || some done) (so_far w w.hosts w.switches w.flows w.steps done) q ok (seam IsAskRange w.asks done rest q is ranges.asks) (seam (λ a. a.flow_at < length w.flows) w.asks done rest q is positions.asks)))
 
 -- ---- the whole text
 
 -- Before the declarations only the shape and the pick have ranges.
-none_declared : (w : Scenario) (x : Section) → IsShape w.shape.rows w.shape.width → IsHash w.shape.hash → IsPick w.pick → IsDraft (at_state x (so_far w [] [] [] [] []))
+none_declared : (w : Scenario) (x : Section) → IsShape w.shape.rows w.shape.width → IsHashRange w.shape.hash → IsPickRange w.pick → IsDraft (at_state x (so_far w [] [] [] [] []))
 none_declared w x shape hash pick = record {
   scenario = record {
     shape = shape;
@@ -223,20 +225,20 @@ none_declared w x shape hash pick = record {
 }
 
 start_draft : IsDraft start
-start_draft = none_declared (scenario_of start) First (record { some_rows = omega arith; few_rows = omega arith; some_width = omega arith; few_width = omega arith }) tt tt
+start_draft = none_declared (scenario_of start) sections.Version (record { some_rows = omega arith; few_rows = omega arith; some_width = omega arith; few_width = omega arith }) tt tt
 
 first_pass : (w : Scenario) → AreRanges w → Passes start (first_text w) (at_state Declarations (so_far w [] [] [] [] []))
 first_pass w ranges =
     let w0 = scenario_of start in
     let w1 : Scenario = record w0 { shape = w.shape } in
-    let third = line_passes (at_state Third w1) (at_state Declarations (so_far w [] [] [] [] [])) (pick_line_words w.pick) refl (λ ok. (pick_are_words w.pick ranges.pick, λ u line. (pick_read w1 w.pick ranges.pick, none_declared w Declarations ranges.shape ranges.hash ranges.pick))) in
-    let second = line_passes (at_state Second w0) (at_state Third w1) (shape_line_words w.shape) refl (λ ok. (shape_are_words w.shape ranges.shape ranges.hash, λ u line. (shape_read w0 w.shape ranges.shape ranges.hash, none_declared w1 Third ranges.shape ranges.hash tt))) in
-    let one = line_passes start (at_state Second w0) guardian_words refl (λ ok. ((refl, (refl, tt)), λ u line. (guardian_read w0, none_declared w0 Second ok.scenario.shape tt tt))) in
-    both start (at_state Second w0) (at_state Declarations (so_far w [] [] [] [] [])) (line_text guardian_words) (line_text (shape_line_words w.shape) ++ line_text (pick_line_words w.pick)) one
-    (both (at_state Second w0) (at_state Third w1) (at_state Declarations (so_far w [] [] [] [] [])) (line_text (shape_line_words w.shape)) (line_text (pick_line_words w.pick)) second third)
+    let third = line_passes (at_state sections.Pick w1) (at_state Declarations (so_far w [] [] [] [] [])) (pick_line_words w.pick) refl (λ ok. (pick_are_words w.pick ranges.pick, λ u line. (pick_read w1 w.pick ranges.pick, none_declared w Declarations ranges.shape ranges.hash ranges.pick))) in
+    let second = line_passes (at_state sections.Shape w0) (at_state sections.Pick w1) (shape_line_words w.shape) refl (λ ok. (shape_are_words w.shape ranges.shape ranges.hash, λ u line. (shape_read w0 w.shape ranges.shape ranges.hash, none_declared w1 sections.Pick ranges.shape ranges.hash tt))) in
+    let one = line_passes start (at_state sections.Shape w0) guardian_words refl (λ ok. ((refl, (refl, tt)), λ u line. (guardian_read w0, none_declared w0 sections.Shape ok.scenario.shape tt tt))) in
+    both start (at_state sections.Shape w0) (at_state Declarations (so_far w [] [] [] [] [])) (line_text guardian_words) (line_text (shape_line_words w.shape) ++ line_text (pick_line_words w.pick)) one
+    (both (at_state sections.Shape w0) (at_state sections.Pick w1) (at_state Declarations (so_far w [] [] [] [] [])) (line_text (shape_line_words w.shape)) (line_text (pick_line_words w.pick)) second third)
 
-declared_pass : (w : Scenario) → AreRanges w → ArePlaces w → Passes (at_state Declarations (so_far w [] [] [] [] [])) (declared_text w) (at_state Declarations (so_far w w.hosts w.switches w.flows [] []))
-declared_pass w ranges places =
+declared_pass : (w : Scenario) → AreRanges w → AreInRange w → Passes (at_state Declarations (so_far w [] [] [] [] [])) (declared_text w) (at_state Declarations (so_far w w.hosts w.switches w.flows [] []))
+declared_pass w ranges positions =
     let bares = map bare w.hosts in
     let none = at_state Declarations (so_far w [] [] [] [] []) in
     let hosts = at_state Declarations (so_far w bares [] [] [] []) in
@@ -245,15 +247,15 @@ declared_pass w ranges places =
     let links = at_state Declarations (so_far w w.hosts w.switches w.flows [] []) in
     both none hosts links (lines_text host_words w.hosts) (lines_text switch_words w.switches ++ (lines_text (flow_words w.hosts w.switches) w.flows ++ flat_map link_text w.hosts)) (hosts_pass w ranges)
     (both hosts switches links (lines_text switch_words w.switches) (lines_text (flow_words w.hosts w.switches) w.flows ++ flat_map link_text w.hosts) (switches_pass w bares ranges)
-    (both switches flows links (lines_text (flow_words w.hosts w.switches) w.flows) (flat_map link_text w.hosts) (flows_pass w ranges places) (links_pass w ranges)))
+    (both switches flows links (lines_text (flow_words w.hosts w.switches) w.flows) (flat_map link_text w.hosts) (flows_pass w ranges positions) (links_pass w ranges)))
 
 -- All before the last line.
 undone_text : Scenario → List ℕ
 undone_text w = first_text w ++ (declared_text w ++ (lines_text (step_words w.flows w.switches) w.steps ++ lines_text (ask_words w.flows) w.asks))
 
-undone_pass : (w : Scenario) → AreRanges w → ArePlaces w → Passes start (undone_text w) (at_state (section_of (some w.steps || some w.asks)) w)
+undone_pass : (w : Scenario) → AreRanges w → AreInRange w → Passes start (undone_text w) (at_state (section_of (some w.steps || some w.asks)) w)
 unfolding undone_text
-undone_pass w ranges places =
+undone_pass w ranges positions =
     let first = at_state Declarations (so_far w [] [] [] [] []) in
     let declared = at_state Declarations (so_far w w.hosts w.switches w.flows [] []) in
     let stepped = at_state (section_of (some w.steps)) (so_far w w.hosts w.switches w.flows w.steps []) in
@@ -261,27 +263,27 @@ undone_pass w ranges places =
     let steps = lines_text (step_words w.flows w.switches) w.steps in
     let asks = lines_text (ask_words w.flows) w.asks in
     both start first all (first_text w) (declared_text w ++ (steps ++ asks)) (first_pass w ranges)
-    (both first declared all (declared_text w) (steps ++ asks) (declared_pass w ranges places)
-    (both declared stepped all steps asks (steps_pass w ranges places) (asks_pass w ranges places)))
+    (both first declared all (declared_text w) (steps ++ asks) (declared_pass w ranges positions)
+    (both declared stepped all steps asks (steps_pass w ranges positions) (asks_pass w ranges positions)))
 
 last_apart : (a b c d e : List ℕ) → a ++ (b ++ (c ++ (d ++ e))) ≡ (a ++ (b ++ (c ++ d))) ++ e
 last_apart a b c d e = rw (append_assoc a (b ++ (c ++ d)) e, append_assoc b (c ++ d) e, append_assoc c d e) refl
 
 -- Parts whose text says a scenario within its first m bytes fit each other, and their text has at most m bytes.
-good_parts : (m : ℕ) (w q : Scenario) → AreRanges w → ArePlaces w → Says m start (text_of w) q → (IsDraft (at_state (section_of (some w.steps || some w.asks)) w)) × (length (text_of w) ≤ m)
+good_parts : (m : ℕ) (w q : Scenario) → AreRanges w → AreInRange w → Says m start (text_of w) q → (IsDraft (at_state (section_of (some w.steps || some w.asks)) w)) × (length (text_of w) ≤ m)
 unfolding undone_text
-good_parts m w q ranges places says =
+good_parts m w q ranges positions says =
     let is : text_of w ≡ undone_text w ++ line_text done_words = last_apart (first_text w) (declared_text w) (lines_text (step_words w.flows w.switches) w.steps) (lines_text (ask_words w.flows) w.asks) (line_text done_words) in
-    let end = undone_pass w ranges places m (line_text done_words) q start_draft (subst (λ (text : List ℕ). Says m start text q) is says) in
+    let end = undone_pass w ranges positions m (line_text done_words) q start_draft (subst (λ (text : List ℕ). Says m start text q) is says) in
     let fits = line_fits end.left (at_state (section_of (some w.steps || some w.asks)) w) done_words [] q (refl, tt) end.says in
     (end.draft, omega (arith, ap length is, length-append (undone_text w) (line_text done_words), end.len, fits))
 
-says_whole : (text : List ℕ) (q : Scenario) → reading text ≡ Ok q → Says most_bytes start text q
+says_whole : (text : List ℕ) (q : Scenario) → reading text ≡ Ok q → Says MOST_TEXT_BYTES start text q
 unfolding reading
 says_whole text q h = (1, h)
 
 -- Parts whose text is read are good.
-pub only_whole : (w q : Scenario) → AreRanges w → ArePlaces w → reading (text_of w) ≡ Ok q → IsWhole w
-only_whole w q ranges places h =
-    let good = good_parts most_bytes w q ranges places (says_whole (text_of w) q h) in
+pub only_whole : (w q : Scenario) → AreRanges w → AreInRange w → reading (text_of w) ≡ Ok q → IsWhole w
+only_whole w q ranges positions h =
+    let good = good_parts MOST_TEXT_BYTES w q ranges positions (says_whole (text_of w) q h) in
     record { fits = good.0.scenario; lines = good.0.lines; short = good.1 }

@@ -12,4 +12,4 @@ pub mod TextAgain
 pub mod GoodLines
 pub mod GoodText
 pub mod LengthLemmas
-pub mod PlacesLemmas
+pub mod InRangeLemmas

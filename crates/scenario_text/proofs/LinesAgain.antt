@@ -28,17 +28,18 @@ use Rattle.lg_model.specs.declared.scenario.Ask.{Ask}
 use Rattle.lg_model.specs.Placing.{Shape, IsShape}
 use Rattle.lg_model.specs.Scenario.{Scenario, IsFlow, packet_count, reached}
 use Rattle.scenario_lines.specs.declared.section.Section.{Section}
-use Rattle.scenario_lines.specs.declared.section.Section.TheVariants.{First, Second, Third, Declarations, Steps, Done}
+use Rattle.scenario_lines.specs.declared.section.Section.TheVariants as sections
+use Rattle.scenario_lines.specs.declared.section.Section.TheVariants.{Declarations, Steps, Done}
 use Rattle.scenario_lines.specs.declared.section.Keyword.{Keyword}
 use Rattle.scenario_lines.specs.declared.section.Keyword.TheVariants as words
-use Rattle.scenario_lines.specs.Sections.{is_first, has_place, keyword_of}
+use Rattle.scenario_lines.specs.Sections.{is_first, admits, keyword_of}
 use Rattle.scenario_lines.specs.Counts.{names_of, path_at, ends_of}
-use Rattle.scenario_lines.specs.Readable.{AreApart, IsHash, IsPick, IsFlowLine}
+use Rattle.scenario_lines.specs.Readable.{AreApart, IsHashRange, IsPickRange, IsFlowLine}
 use Rattle.text_out.specs.Words.{Words, joined}
 use Rattle.text_out.specs.Shapes.{hash_words}
 use Rattle.scenario_lines.specs.Spelling.{guardian_words, shape_line_words, pick_words, pick_line_words, host_words, switch_words, host_names, key_parts, path_words, flow_words, byte_of, link_words, burst_words, fate_words, step_words, ask_words, done_words}
 use Rattle.scenario_lines.specs.Draft.{State}
-use Rattle.scenario_lines.specs.Fields.{word, ended, fresh, known, place, fresh_host, host_place, fresh_flow, room, room_to, all_room, room_for_all, key_address, key_number, key, hop, path, hash, pick, is_letter, letter_of, letters_word, delays, burst, fate, fate_ended}
+use Rattle.scenario_lines.specs.Fields.{word, no_more, fresh_name, known_name, position_of, fresh_host, host_position, fresh_flow, room, room_to, all_room, room_for_all, key_address, key_number, key, hop, path, hash, pick, is_letter, letter_of, letters_word, delays, burst, fate, fate_ended}
 use Rattle.scenario_lines.specs.Line.{shape_line, pick_line, host_line, switch_line, flow_line, unlinked, link_line, packet_line, end_one, end_all, end_line, release_line, ask_line, done_line, form_of, words_line, is_skipped, line_of}
 use Rattle.scenario_lines.proofs.IndexLemmas.{position_none}
 use Rattle.scenario_lines.proofs.ReadableLemmas.{absent}
@@ -55,46 +56,46 @@ section_of true = Steps
 section_of false = Declarations
 
 -- A line that isn't the first goes by its form.
-pub form_read : (s : State) (w : List ℕ) (ws : Words) (k : Keyword) → is_skipped (joined (w ∷ ws)) ≡ false → is_first s.section ≡ false → keyword_of w ≡ Some k → has_place s.section k ≡ true → AreWords (w ∷ ws) → line_of s (joined (w ∷ ws)) ≡ form_of k s ws
+pub form_read : (s : State) (w : List ℕ) (ws : Words) (k : Keyword) → is_skipped (joined (w ∷ ws)) ≡ false → is_first s.section ≡ false → keyword_of w ≡ Some k → admits s.section k ≡ true → AreWords (w ∷ ws) → line_of s (joined (w ∷ ws)) ≡ form_of k s ws
 unfolding line_of
 form_read s w ws k plain later is placed ok = rw (plain, later) (ap (words_line s) (split_words w ws ok) ∙ rw (is, placed) refl)
 
--- ---- the three first lines
+-- ---- the first three lines
 
-pub guardian_read : (w : Scenario) → line_of (at_state First w) (joined guardian_words) ≡ Ok (at_state Second w)
+pub guardian_read : (w : Scenario) → line_of (at_state sections.Version w) (joined guardian_words) ≡ Ok (at_state sections.Shape w)
 unfolding line_of
 guardian_read w = refl
 
-hash_read : (x : Hash) → IsHash x → hash (hash_words x) ≡ Ok (x, [])
+hash_read : (x : Hash) → IsHashRange x → hash (hash_words x) ≡ Ok (x, [])
 unfolding hash
 hash_read hashes.Ports ok = refl
 hash_read (hashes.Seed n) ok = rw (number_read 18446744073709551615 n [] (lit< tt) (omega (arith, ok))) refl
 
-hash_are_words : (x : Hash) → IsHash x → AreWords (hash_words x)
+hash_are_words : (x : Hash) → IsHashRange x → AreWords (hash_words x)
 hash_are_words hashes.Ports ok = (refl, tt)
 hash_are_words (hashes.Seed n) ok = (refl, (number_word_is n ok, tt))
 
-pub shape_are_words : (x : Shape) → IsShape x.rows x.width → IsHash x.hash → AreWords (shape_line_words x)
+pub shape_are_words : (x : Shape) → IsShape x.rows x.width → IsHashRange x.hash → AreWords (shape_line_words x)
 shape_are_words x fits ok = (refl, (number_word_is x.rows (omega (arith, fits.few_rows)), (number_word_is x.width (omega (arith, fits.few_width)), hash_are_words x.hash ok)))
 
-pub shape_read : (w : Scenario) (x : Shape) → IsShape x.rows x.width → IsHash x.hash → line_of (at_state Second w) (joined (shape_line_words x)) ≡ Ok (at_state Third (record w { shape = x }))
-unfolding keyword_of shape_line ended
+pub shape_read : (w : Scenario) (x : Shape) → IsShape x.rows x.width → IsHashRange x.hash → line_of (at_state sections.Shape w) (joined (shape_line_words x)) ≡ Ok (at_state sections.Pick (record w { shape = x }))
+unfolding keyword_of shape_line no_more
 shape_read w x fits ok =
-    form_read (at_state Second w) (codes "shape") (decimal x.rows ∷ decimal x.width ∷ hash_words x.hash) words.Shape refl refl refl refl (shape_are_words x fits ok)
+    form_read (at_state sections.Shape w) (codes "shape") (decimal x.rows ∷ decimal x.width ∷ hash_words x.hash) words.Shape refl refl refl refl (shape_are_words x fits ok)
     ∙ rw (number_from_read 1 8 x.rows (decimal x.width ∷ hash_words x.hash) (lit< tt) fits.some_rows fits.few_rows, number_from_read 1 4096 x.width (hash_words x.hash) (lit< tt) fits.some_width fits.few_width, hash_read x.hash ok) refl
 
-pick_words_read : (x : Pick) → IsPick x → pick (pick_words x) ≡ Ok (x, [])
+pick_words_read : (x : Pick) → IsPickRange x → pick (pick_words x) ≡ Ok (x, [])
 unfolding pick
 pick_words_read picks.Turns ok = refl
 pick_words_read (picks.Chance n) ok = rw (number_read 18446744073709551615 n [] (lit< tt) (omega (arith, ok))) refl
 
-pub pick_are_words : (x : Pick) → IsPick x → AreWords (pick_line_words x)
+pub pick_are_words : (x : Pick) → IsPickRange x → AreWords (pick_line_words x)
 pick_are_words picks.Turns ok = (refl, (refl, tt))
 pick_are_words (picks.Chance n) ok = (refl, (refl, (number_word_is n ok, tt)))
 
-pub pick_read : (w : Scenario) (x : Pick) → IsPick x → line_of (at_state Third w) (joined (pick_line_words x)) ≡ Ok (at_state Declarations (record w { pick = x }))
-unfolding keyword_of pick_line ended
-pick_read w x ok = form_read (at_state Third w) (codes "pick") (pick_words x) words.Pick refl refl refl refl (pick_are_words x ok) ∙ rw (pick_words_read x ok) refl
+pub pick_read : (w : Scenario) (x : Pick) → IsPickRange x → line_of (at_state sections.Pick w) (joined (pick_line_words x)) ≡ Ok (at_state Declarations (record w { pick = x }))
+unfolding keyword_of pick_line no_more
+pick_read w x ok = form_read (at_state sections.Pick w) (codes "pick") (pick_words x) words.Pick refl refl refl refl (pick_are_words x ok) ∙ rw (pick_words_read x ok) refl
 
 -- ---- hosts and switches
 
@@ -106,7 +107,7 @@ pub host_are_words : (h : HostLine) → h.name < 65536 → AreWords (host_words 
 host_are_words h small = (refl, (number_word_is h.name (omega arith), tt))
 
 pub host_read : (w : Scenario) (h : HostLine) → h.name < 65536 → list_any (λ g. eqb g.name h.name) w.hosts ≡ false → length w.hosts < 64 → line_of (at_state Declarations w) (joined (host_words h)) ≡ Ok (at_state Declarations (record w { hosts = w.hosts ++ bare h ∷ [] }))
-unfolding keyword_of host_line fresh_host ended room
+unfolding keyword_of host_line fresh_host no_more room
 host_read w h small new few =
     form_read (at_state Declarations w) (codes "host") (decimal h.name ∷ []) words.Host refl refl refl refl (host_are_words h small)
     ∙ rw (number_read 65535 h.name [] (lit< tt) (omega arith), new, lt-ltb (length w.hosts) 64 few) refl
@@ -115,7 +116,7 @@ pub switch_are_words : (n : ℕ) → n < 65536 → AreWords (switch_words n)
 switch_are_words n small = (refl, (number_word_is n (omega arith), tt))
 
 pub switch_read : (w : Scenario) (n : ℕ) → n < 65536 → list_any (λ m. eqb m n) w.switches ≡ false → length w.switches < 64 → line_of (at_state Declarations w) (joined (switch_words n)) ≡ Ok (at_state Declarations (record w { switches = w.switches ++ n ∷ [] }))
-unfolding keyword_of switch_line fresh ended room
+unfolding keyword_of switch_line fresh_name no_more room
 switch_read w n small new few =
     form_read (at_state Declarations w) (codes "switch") (decimal n ∷ []) words.Switch refl refl refl refl (switch_are_words n small)
     ∙ rw (number_read 65535 n [] (lit< tt) (omega arith), new, lt-ltb (length w.switches) 64 few) refl
@@ -127,7 +128,7 @@ unfolding key key_address key_number
 key_read k ws h = rw (address_again k.src h.src, address_again k.dst h.dst, number_again 255 k.proto (lit< tt) (omega (arith, h.proto)), number_again 65535 k.sport (lit< tt) (omega (arith, h.sport)), number_again 65535 k.dport (lit< tt) (omega (arith, h.dport))) refl
 
 pub path_read : (switches sofar ats : List ℕ) → AreApart switches → All (λ n. n < 65536) switches → All (λ at. at < length switches) ats → AreApart (sofar ++ ats) → length sofar + length ats ≤ 16 → 0 < length sofar + length ats → path switches sofar (path_words switches ats) ≡ Ok (sofar ++ ats)
-unfolding path hop place fresh
+unfolding path hop position_of fresh_name
 path_read switches sofar [] own small within once few some =
     let e : eqb (length sofar) 0 ≡ false = grind arith in
     rw (e, append-nil) refl
@@ -164,7 +165,7 @@ flow_are_words w hosts f h = flow_are_words_of w.switches f (slice_index (host_n
 
 flow_line_read : (w : Scenario) (hosts : List HostLine) (f : Flow) → FlowFits w hosts f →
     flow_line (at_state Declarations w) (decimal f.name ∷ key_parts f.key (codes "host" ∷ decimal (slice_index (host_names w.hosts) f.host_at) ∷ codes "path" ∷ path_words w.switches f.path)) ≡ Ok (at_state Declarations (record w { flows = w.flows ++ f ∷ [] }))
-unfolding flow_line word host_place fresh_flow room
+unfolding flow_line word host_position fresh_flow room
 flow_line_read w hosts f h =
     let none : position (λ m. eqb m f.name) (names_of w.flows) ≡ None = position_none (λ m. eqb m f.name) (names_of w.flows) (λ k lt. absent (λ m. eqb m f.name) (names_of w.flows) h.new_flow k 0 lt) in
     rw (number_read 65535 f.name _ (lit< tt) (omega (arith, h.line.name)), none, key_read f.key _ h.line.key, number_read 65535 (slice_index (host_names w.hosts) f.host_at) _ (lit< tt) (omega (arith, h.host_name)), thing_found (λ (g : HostLine). g.name) w.hosts f.host_at h.own_hosts h.fits.host, path_read w.switches [] f.path h.own_switches h.small_switches h.fits.path h.line.once (omega (arith, h.fits.few_hops)) (omega (arith, h.fits.some_hops)), lt-ltb (length w.flows) 4096 h.room_left) refl
@@ -228,7 +229,7 @@ letters_read ls some few =
 
 pub link_read : (w : Scenario) (done rest : List HostLine) (h : HostLine) → h.name < 65536 → 0 < length h.letters → length h.letters ≤ 4096 → list_any (λ g. eqb g.name h.name) done ≡ false →
     line_of (at_state Declarations (record w { hosts = done ++ bare h ∷ rest })) (joined (link_words h)) ≡ Ok (at_state Declarations (record w { hosts = done ++ h ∷ rest }))
-unfolding keyword_of link_line host_place unlinked ended
+unfolding keyword_of link_line host_position unlinked no_more
 link_read w done rest h small some few new =
     form_read (at_state Declarations (record w { hosts = done ++ bare h ∷ rest })) (codes "link") (decimal h.name ∷ map byte_of h.letters ∷ []) words.Link refl refl refl refl (link_are_words h small)
     ∙ rw (number_read 65535 h.name (map byte_of h.letters ∷ []) (lit< tt) (omega arith), place_seam done rest h new, get_seam done rest (bare h), letters_read h.letters some few, set_seam done rest (bare h) h) refl
@@ -239,7 +240,7 @@ pub later : (b : Bool) → is_first (section_of b) ≡ false
 later true = refl
 later false = refl
 
-pub placed : (b : Bool) (k : Keyword) → has_place Steps k ≡ true → has_place Declarations k ≡ true → has_place (section_of b) k ≡ true
+pub placed : (b : Bool) (k : Keyword) → admits Steps k ≡ true → admits Declarations k ≡ true → admits (section_of b) k ≡ true
 placed true k one two = one
 placed false k one two = two
 
@@ -302,7 +303,7 @@ pub flow_found : (w : Scenario) (at : ℕ) → AreApart (names_of w.flows) → a
 flow_found w at own lt = name_found (names_of w.flows) at own (omega (arith, length-map w.flows (λ (f : Flow). f.name)))
 
 pub packet_read : (b : Bool) (w : Scenario) (at size : ℕ) (ds : List ℕ) (n : ℕ) (x : Fate) → PacketFits w at size ds n x → line_of (at_state (section_of b) w) (joined (step_words w.flows w.switches (steps.Packet at size ds n x))) ≡ Ok (at_state Steps (record w { steps = w.steps ++ steps.Packet at size ds n x ∷ [] }))
-unfolding keyword_of packet_line place room_to
+unfolding keyword_of packet_line position_of room_to
 packet_read b w at size ds n x h =
     form_read (at_state (section_of b) w) (codes "packet") (decimal (slice_index (names_of w.flows) at) ∷ decimal size ∷ (map decimal ds ++ (burst_words n ++ fate_words x))) words.Packet refl (later b) refl (placed b words.Packet refl refl) (packet_are_words w at size ds n x h)
     ∙ rw (number_read 65535 (slice_index (names_of w.flows) at) _ (lit< tt) (omega (arith, h.name)), flow_found w at h.own_flows h.flow, number_read 65535 size _ (lit< tt) (omega (arith, h.small)), delays_read (path_at w.flows at) [] ds (burst_words n ++ fate_words x) h.delays h.hops, burst_if n x (eqb n 1) refl h.some (omega (arith, h.packets)), fate_read (length (path_at w.flows at)) x (omega (arith, h.short)) h.fate, le-leb (packet_count w.steps + n) 1000000 h.packets) refl
@@ -325,7 +326,7 @@ pub end_are_words : (n : ℕ) → n < 65536 → AreWords (codes "end" ∷ decima
 end_are_words n small = (refl, (number_word_is n (omega arith), tt))
 
 pub end_read : (b : Bool) (w : Scenario) (at : ℕ) → at < length w.switches → AreApart w.switches → slice_index w.switches at < 65536 → ends_of at w.steps < 65535 → line_of (at_state (section_of b) w) (joined (step_words w.flows w.switches (steps.End at))) ≡ Ok (at_state Steps (record w { steps = w.steps ++ steps.End at ∷ [] }))
-unfolding keyword_of end_line end_one place ended room
+unfolding keyword_of end_line end_one position_of no_more room
 end_read b w at lt own small few =
     form_read (at_state (section_of b) w) (codes "end") (decimal (slice_index w.switches at) ∷ []) words.End refl (later b) refl (placed b words.End refl refl) (end_are_words (slice_index w.switches at) small)
     ∙ rw (not_word (slice_index w.switches at) (codes "all") (bytes_eq (decimal (slice_index w.switches at)) (codes "all")) refl small no_number, number_read 65535 (slice_index w.switches at) [] (lit< tt) (omega (arith, small)), name_found w.switches at own lt, lt-ltb (ends_of at w.steps) 65535 few) refl
@@ -335,13 +336,13 @@ all_have_room ts zero few = refl
 all_have_room ts (suc n) few = rw (lt-ltb (ends_of n ts) 65535 (few n (omega arith)), all_have_room ts n (λ i lt. few i (omega arith))) refl
 
 pub end_all_read : (b : Bool) (w : Scenario) → ((i : ℕ) → i < length w.switches → ends_of i w.steps < 65535) → line_of (at_state (section_of b) w) (joined (step_words w.flows w.switches steps.EndAll)) ≡ Ok (at_state Steps (record w { steps = w.steps ++ steps.EndAll ∷ [] }))
-unfolding keyword_of end_line end_all ended room_for_all
+unfolding keyword_of end_line end_all no_more room_for_all
 end_all_read b w few =
     form_read (at_state (section_of b) w) (codes "end") (codes "all" ∷ []) words.End refl (later b) refl (placed b words.End refl refl) (refl, (refl, tt))
     ∙ rw (all_have_room w.steps (length w.switches) few) refl
 
 pub release_read : (b : Bool) (w : Scenario) → line_of (at_state (section_of b) w) (joined (step_words w.flows w.switches steps.Release)) ≡ Ok (at_state Steps (record w { steps = w.steps ++ steps.Release ∷ [] }))
-unfolding keyword_of release_line ended
+unfolding keyword_of release_line no_more
 release_read b w = form_read (at_state (section_of b) w) (codes "release") [] words.Release refl (later b) refl (placed b words.Release refl refl) (refl, tt)
 
 -- ---- asks and the last line
@@ -350,11 +351,11 @@ pub ask_are_words : (w : Scenario) (q : Ask) → slice_index (names_of w.flows) 
 ask_are_words w q name switch epoch = (refl, (number_word_is (slice_index (names_of w.flows) q.flow_at) (omega arith), (number_word_is q.switch (omega arith), (number_word_is q.epoch (omega arith), tt))))
 
 pub ask_read : (b : Bool) (w : Scenario) (q : Ask) → q.flow_at < length w.flows → AreApart (names_of w.flows) → slice_index (names_of w.flows) q.flow_at < 65536 → list_any (λ m. eqb m q.switch) w.switches ≡ true → q.switch < 65536 → q.epoch < 4294967296 → length w.asks < 10000 → line_of (at_state (section_of b) w) (joined (ask_words w.flows q)) ≡ Ok (at_state Steps (record w { asks = w.asks ++ q ∷ [] }))
-unfolding keyword_of ask_line place known ended room
+unfolding keyword_of ask_line position_of known_name no_more room
 ask_read b w q lt own name declared switch epoch few =
     form_read (at_state (section_of b) w) (codes "ask") (decimal (slice_index (names_of w.flows) q.flow_at) ∷ decimal q.switch ∷ decimal q.epoch ∷ []) words.Ask refl (later b) refl (placed b words.Ask refl refl) (ask_are_words w q name switch epoch)
     ∙ rw (number_read 65535 (slice_index (names_of w.flows) q.flow_at) _ (lit< tt) (omega arith), flow_found w q.flow_at own lt, number_read 65535 q.switch _ (lit< tt) (omega arith), declared, number_read 4294967295 q.epoch _ (lit< tt) (omega arith), lt-ltb (length w.asks) 10000 few) refl
 
 pub done_read : (b : Bool) (w : Scenario) → line_of (at_state (section_of b) w) (joined done_words) ≡ Ok (at_state Done w)
-unfolding keyword_of done_line ended
+unfolding keyword_of done_line no_more
 done_read b w = form_read (at_state (section_of b) w) (codes "done") [] words.Done refl (later b) refl (placed b words.Done refl refl) (refl, tt)

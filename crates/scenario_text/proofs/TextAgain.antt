@@ -5,13 +5,15 @@ use Rattle.std.proofs.lemmas.List.{append-nil, get_or-map, length-map, map-appen
 use Rattle.std.proofs.lemmas.List.Sums.{sum_by-append, sum_by-cons}
 use Rattle.std.proofs.lemmas.List.Splits.{slice_split_at, length-slice_split}
 use Rattle.flow_key.specs.Words.{words_at}
+use Rattle.lg_model.specs.declared.limits.TheConstants.{MOST_TEXT_BYTES}
 use Rattle.lg_model.specs.declared.scenario.HostLine.{HostLine}
 use Rattle.lg_model.specs.declared.scenario.Flow.{Flow}
 use Rattle.lg_model.specs.declared.scenario.Step.{Step}
 use Rattle.lg_model.specs.declared.scenario.Step.TheVariants as steps
 use Rattle.lg_model.specs.declared.scenario.Ask.{Ask}
 use Rattle.lg_model.specs.Scenario.{Scenario, IsFlow, IsStep, IsAsk, packet_count, burst_of, is_end_of}
-use Rattle.scenario_lines.specs.declared.section.Section.TheVariants.{First, Second, Third, Declarations, Steps, Done}
+use Rattle.scenario_lines.specs.declared.section.Section.TheVariants as sections
+use Rattle.scenario_lines.specs.declared.section.Section.TheVariants.{Declarations, Steps, Done}
 use Rattle.scenario_lines.specs.Sections.{is_done}
 use Rattle.scenario_lines.specs.Counts.{names_of, ends_of}
 use Rattle.scenario_lines.specs.Readable.{AreApart, IsHostLine, IsFlowLine, IsStepLine, IsAskLine}
@@ -19,7 +21,7 @@ use Rattle.text_out.specs.Words.{Words, joined}
 use Rattle.scenario_lines.specs.Spelling.{line_text, guardian_words, shape_line_words, pick_line_words, host_words, switch_words, host_names, flow_words, link_words, step_words, ask_words, done_words}
 use Rattle.scenario_lines.specs.Draft.{State, start, scenario_of}
 use Rattle.scenario_lines.specs.Line.{line_of}
-use Rattle.scenario_text.specs.Text.{lines_say, reading, most_bytes}
+use Rattle.scenario_text.specs.Text.{lines_say, reading}
 use Rattle.scenario_parts.specs.Printed.{lines_text, link_text, first_text, declared_text, happening_text, text_of}
 use Rattle.scenario_parts.specs.Whole.{IsWhole}
 use Rattle.scenario_text.proofs.WordsAgain.{AreWords, joined_plain, plain_unbroken, plain_bare}
@@ -242,14 +244,14 @@ first : (w : Scenario) (more : List ℕ) → IsWhole w → Reads (at_state Decla
 first w more h then =
     let w0 = scenario_of start in
     let w1 : Scenario = record w0 { shape = w.shape } in
-    let third = before (at_state Third w1) (at_state Declarations (so_far w [] [] [] [] [])) (pick_line_words w.pick) more w (pick_are_words w.pick h.lines.pick) (pick_read w1 w.pick h.lines.pick) refl then in
-    let second = before (at_state Second w0) (at_state Third w1) (shape_line_words w.shape) (line_text (pick_line_words w.pick) ++ more) w (shape_are_words w.shape h.fits.shape h.lines.hash) (shape_read w0 w.shape h.fits.shape h.lines.hash) refl third in
-    let one = before (at_state First w0) (at_state Second w0) guardian_words (line_text (shape_line_words w.shape) ++ (line_text (pick_line_words w.pick) ++ more)) w (refl, (refl, tt)) (guardian_read w0) refl second in
+    let third = before (at_state sections.Pick w1) (at_state Declarations (so_far w [] [] [] [] [])) (pick_line_words w.pick) more w (pick_are_words w.pick h.lines.pick) (pick_read w1 w.pick h.lines.pick) refl then in
+    let second = before (at_state sections.Shape w0) (at_state sections.Pick w1) (shape_line_words w.shape) (line_text (pick_line_words w.pick) ++ more) w (shape_are_words w.shape h.fits.shape h.lines.hash) (shape_read w0 w.shape h.fits.shape h.lines.hash) refl third in
+    let one = before (at_state sections.Version w0) (at_state sections.Shape w0) guardian_words (line_text (shape_line_words w.shape) ++ (line_text (pick_line_words w.pick) ++ more)) w (refl, (refl, tt)) (guardian_read w0) refl second in
     three start w (line_text guardian_words) (line_text (shape_line_words w.shape)) (line_text (pick_line_words w.pick)) more one
 
-reads_whole : (text : List ℕ) (w : Scenario) → Reads start text w → length text ≤ most_bytes → reading text ≡ Ok w
+reads_whole : (text : List ℕ) (w : Scenario) → Reads start text w → length text ≤ MOST_TEXT_BYTES → reading text ≡ Ok w
 unfolding reading
-reads_whole text w reads short = rw (take_all most_bytes text short) (reads _ 1)
+reads_whole text w reads short = rw (take_all MOST_TEXT_BYTES text short) (reads _ 1)
 
 pub printed : (w : Scenario) → IsWhole w → reading (text_of w) ≡ Ok w
 printed w h = reads_whole (text_of w) w (first w (declared_text w ++ happening_text w) h (declared w (happening_text w) h (happening w h))) h.short

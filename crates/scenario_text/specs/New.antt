@@ -7,7 +7,7 @@ use Rattle.lg_model.specs.declared.scenario.Step.{Step}
 use Rattle.lg_model.specs.declared.scenario.Ask.{Ask}
 use Rattle.lg_model.specs.Placing.{Shape}
 use Rattle.lg_model.specs.Scenario.{Scenario}
-use Rattle.scenario_parts.specs.Parts.{ArePlaces}
+use Rattle.scenario_parts.specs.Parts.{AreInRange}
 use Rattle.scenario_parts.specs.Printed.{text_of}
 use Rattle.scenario_text.specs.Text.{reading}
 
@@ -17,4 +17,4 @@ parts_of shape pick hosts switches flows steps asks = record { shape = shape; pi
 
 -- A position in the parts is out of range, or their text is no scenario text.
 abbrev pub IsUnsaid : Scenario → Type 0
-IsUnsaid w = ArePlaces w → (q : Scenario) → reading (text_of w) ≡ Ok q → ⊥
+IsUnsaid w = AreInRange w → (q : Scenario) → reading (text_of w) ≡ Ok q → ⊥

@@ -2,6 +2,7 @@
 use Rattle.std.specs.Prelude.{◌≡◌, ℕ, ◌+◌, ◌≤◌, Bool, List, [], ◌∷◌, length, take, drop, Option, Some, Result, Ok, Err, nat_le, if◌then◌else◌}
 use Rattle.std.specs.Str.Lines.{strip_carriage_return}
 use Rattle.flow_key.specs.Words.{words_at}
+use Rattle.lg_model.specs.declared.limits.TheConstants.{MOST_TEXT_BYTES}
 use Rattle.lg_model.specs.Scenario.{Scenario}
 use Rattle.scenario_lines.specs.declared.why.Why.{Why}
 use Rattle.scenario_lines.specs.declared.why.Why.TheVariants.{NoDone, TooLong}
@@ -15,16 +16,12 @@ use Rattle.scenario_text.specs.declared.fault.ScenarioFault.TheVariants as fault
 abbrev pub Fault : Type 0
 Fault = ℕ × Why
 
--- The most bytes of a text.
-abbrev pub most_bytes : ℕ
-most_bytes = 16777216
-
 -- The last line of an input, which has no 0A.
 abbrev pub at_end : ℕ → Result State Why → Result Scenario Fault
 at_end n (Err why) = Err (n, why)
 at_end n (Ok s) = if is_done s.section then Ok (scenario_of s) else Err (n, NoDone)
 
--- What follows a line that has its 0A: nothing behind `done` or a fault, else the next line.
+-- What follows a line that has its 0A: nothing after `done` or a fault, else the next line.
 abbrev pub after_line : ℕ → Result State Why → (State → Result Scenario Fault) → Result Scenario Fault
 after_line n (Err why) next = Err (n, why)
 after_line n (Ok s) next = if is_done s.section then Ok (scenario_of s) else next s
@@ -39,7 +36,7 @@ lines_say long n s (part ∷ next ∷ parts) =
 
 -- What an input says: the scenario, or the first faulty line and why. Only the first 16,777,216 bytes are looked at.
 unfoldable pub reading : List ℕ → Result Scenario Fault
-reading input = lines_say (nat_le most_bytes (length input)) 1 start (words_at 10 (take most_bytes input))
+reading input = lines_say (nat_le MOST_TEXT_BYTES (length input)) 1 start (words_at 10 (take MOST_TEXT_BYTES input))
 
 -- ---- the deciding prefix
 
@@ -54,7 +51,7 @@ decide s (part ∷ []) = length part
 decide s (part ∷ next ∷ parts) = (length part + 1) + after_len (line_of s (strip_carriage_return part)) (λ t. decide t (next ∷ parts))
 
 unfoldable pub deciding_len : List ℕ → ℕ
-deciding_len input = decide start (words_at 10 (take most_bytes input))
+deciding_len input = decide start (words_at 10 (take MOST_TEXT_BYTES input))
 
 -- The deciding prefix of an input.
 abbrev pub deciding : List ℕ → List ℕ

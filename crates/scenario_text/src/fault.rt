@@ -13,6 +13,6 @@ pub enum ScenarioFault {
     },
     /// The source failed.
     ReadFault,
-    /// No memory was found.
+    /// Memory ran out.
     Memory,
 }

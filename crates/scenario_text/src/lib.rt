@@ -5,7 +5,7 @@
 //! | [`Scenario`] | the parts of a scenario, which fit each other |
 //! | [`read`] | the scenario that the bytes of a source say |
 //! | [`print`] | the text of a scenario |
-//! | [`ScenarioFault`], [`Why`] | why there is none: a faulty line and its why, a failed source, want of memory |
+//! | [`ScenarioFault`], [`Why`] | why there is none: a faulty line and its why, a failed source, no memory |
 #![tactic(auto)]
 
 mod fault;

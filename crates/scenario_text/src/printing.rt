@@ -1,5 +1,6 @@
 //! The text of a scenario.
 ghost use Rattle.std.specs.Prelude.{◌≡◌, ◌≤◌, ◌++◌, length, OnOk, IfOk, Ok};
+ghost use Rattle.lg_model.specs.declared.limits.TheConstants.{MOST_TEXT_BYTES};
 ghost use Rattle.scenario_lines.specs.Spelling.{line_text, guardian_words, shape_line_words, pick_line_words};
 ghost use Rattle.scenario_text.specs.Text.{reading};
 ghost use Rattle.scenario_parts.specs.Printed.{declared_text, happening_text, text_of};
@@ -50,7 +51,7 @@ fn put_happenings(out: &mut Vec<u8>, scenario: &Scenario) -> Result<(), Memory>
 /// `Memory` where memory runs out.
 pub fn print(alloc: Global, scenario: &Scenario) -> Result<Vec<u8>, Memory>
     ensures text { IfOk result (λ text. text.items ≡ text_of scenario.now) }
-    ensures short { IfOk result (λ text. length text.items ≤ 16777216) }
+    ensures short { IfOk result (λ text. length text.items ≤ MOST_TEXT_BYTES) }
     ensures again { IfOk result (λ text. reading text.items ≡ Ok scenario.now) }
 {
     let mut out = Vec::new(alloc);

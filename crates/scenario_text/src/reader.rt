@@ -1,14 +1,15 @@
 //! A text that comes in pieces.
 ghost use Rattle.std.specs.Prelude.{◌≡◌, ◌≢◌, ◌+◌, ◌<◌, ◌≤◌, ◌^◌, ◌++◌, [], ◌∷◌, length, IfSome, IfNone, IfErr, OnOk, Err, true, false};
 ghost use Rattle.std.specs.Str.Lines.{strip_carriage_return};
-ghost use Rattle.scenario_lines.specs.Draft.{view, start, scenario_of, Fits};
-ghost use Rattle.scenario_lines.specs.Fields.{Leaves};
+ghost use Rattle.lg_model.specs.declared.limits.TheConstants.{MOST_TEXT_BYTES};
+ghost use Rattle.scenario_lines.specs.Draft.{view, start, scenario_of, FitsSoFar};
+ghost use Rattle.scenario_lines.specs.Fields.{LeavesState};
 ghost use Rattle.scenario_lines.specs.Line.{line_of};
-ghost use Rattle.scenario_lines.specs.Weight.{weight};
+ghost use Rattle.scenario_lines.specs.PrintedLen.{printed_len};
 ghost use Rattle.scenario_parts.specs.Printed.{text_of};
 ghost use Rattle.scenario_text.specs.declared.fault.ScenarioFault.TheVariants.{ReadFault, Memory};
 ghost use Rattle.scenario_text.specs.Text.{Answers};
-ghost use Rattle.scenario_text.specs.Reading.{Fed, Spent, Holds, held, IsReader, IsUnbroken, EndsAt, from_here};
+ghost use Rattle.scenario_text.specs.Reading.{Fed, Spent, Holds, len_so_far, IsReader, IsUnbroken, EndsAt, from_here};
 
 use crate::fault::ScenarioFault;
 use crate::scenario::Scenario;
@@ -62,9 +63,9 @@ impl Reader {
     fn take_line(&mut self, front: &[u8]) -> Result<(), LineFault>
         requires reader { IsReader self.old }
         requires unbroken { IsUnbroken front.now }
-        ensures leaves { Leaves result (view self.new.draft) (line_of (view self.old.draft) (strip_carriage_return (self.old.pending.items ++ front.now))) }
+        ensures leaves { LeavesState result (view self.new.draft) (line_of (view self.old.draft) (strip_carriage_return (self.old.pending.items ++ front.now))) }
         ensures reader { OnOk result (IsReader self.new) }
-        ensures weight { OnOk result (weight (view self.new.draft) ≤ weight (view self.old.draft) + (length self.old.pending.items + length front.now + 1)) }
+        ensures printed_len { OnOk result (printed_len (view self.new.draft) ≤ printed_len (view self.old.draft) + (length self.old.pending.items + length front.now + 1)) }
         ensures line { self.new.line ≡ self.old.line }
     {
         if self.pending.is_empty() {
@@ -75,14 +76,14 @@ impl Reader {
         }
     }
 
-    // The end of the pending line behind these last bytes of it. `true` where it was the last one.
+    // The end of the pending line after these last bytes of it. `true` where it was the last one.
     fn end_line(&mut self, front: &[u8]) -> Result<bool, ScenarioFault>
         requires reader { IsReader self.old }
         requires unbroken { IsUnbroken front.now }
         requires short { self.old.line + 1 < 2 ^ 32 }
         ensures fed { Fed self.old (front.now ++ 10 ∷ []) self.new result }
         ensures spent { Spent self.old (front.now ++ 10 ∷ []) self.new result }
-        ensures weight { Holds self.old (length front.now + 1) self.new result }
+        ensures printed_len { Holds self.old (length front.now + 1) self.new result }
         ensures reader { OnOk result (IsReader self.new) }
         ensures short { self.new.line ≤ self.old.line + 1 }
     {
@@ -120,13 +121,13 @@ impl Reader {
         }
     }
 
-    // The next bytes. `true` where the line `done` ended in them; bytes behind it are not looked at.
+    // The next bytes. `true` where the line `done` ended in them; bytes after it are not looked at.
     pub(crate) fn feed(&mut self, piece: &[u8]) -> Result<bool, ScenarioFault>
         requires reader { IsReader self.old }
         requires short { self.old.line + length piece.now < 2 ^ 32 }
         ensures fed { Fed self.old piece.now self.new result }
         ensures spent { Spent self.old piece.now self.new result }
-        ensures weight { Holds self.old (length piece.now) self.new result }
+        ensures printed_len { Holds self.old (length piece.now) self.new result }
         ensures reader { OnOk result (IsReader self.new) }
         ensures short { self.new.line ≤ self.old.line + length piece.now }
     {
@@ -148,7 +149,7 @@ impl Reader {
     // The end of the input: an unfinished last line may be `done`.
     pub(crate) fn end(mut self) -> Result<Scenario, ScenarioFault>
         requires reader { IsReader self }
-        requires short { held self < 16777216 }
+        requires short { len_so_far self < MOST_TEXT_BYTES }
         ensures says { Answers result (from_here false self []) }
         ensures no_fault { IfErr result (λ e. e ≢ ReadFault) }
     {
@@ -186,8 +187,8 @@ impl Reader {
 
     // The scenario of the lines so far.
     pub(crate) fn scenario(self) -> Scenario
-        requires fits { Fits self.draft }
-        requires short { length (text_of (scenario_of (view self.draft))) ≤ 16777216 }
+        requires fits { FitsSoFar self.draft }
+        requires short { length (text_of (scenario_of (view self.draft))) ≤ MOST_TEXT_BYTES }
         ensures { result ≡ scenario_of (view self.draft) }
     {
         let Reader { draft, .. } = self;

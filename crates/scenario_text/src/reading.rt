@@ -9,9 +9,8 @@ use crate::fault::ScenarioFault;
 use crate::reader::Reader;
 use crate::scenario::Scenario;
 use lg_base::Source;
+use lg_model::limits::MOST_TEXT_BYTES;
 use std::alloc::Global;
-
-const MOST_BYTES: usize = 16_777_216;
 
 // The next bytes, at most `want`, at the front of `buf`.
 fn next_piece<S: Source>(
@@ -33,12 +32,12 @@ fn next_piece<S: Source>(
 
 /// The scenario that the bytes of a source say (docs/FORMATS.md, Scenario text). The input is all bytes that the
 /// source has left at the start of the call; they are taken in pieces of at most 4,096, and no piece is asked for
-/// behind the one that decides.
+/// after the one that decides.
 ///
 /// `Bad` exactly where the input is no scenario text and the answer is neither of the two others: the first faulty
 /// line, from 1, and why. `ReadFault` only where the source's count of faults rose or stands at its last value.
-/// `Memory` where no memory was found. At `Ok` and at `Bad` the deciding prefix of the input was taken, and maybe
-/// some bytes behind it.
+/// `Memory` where memory runs out. At `Ok` and at `Bad` the deciding prefix of the input was taken, and maybe
+/// some bytes after it.
 pub fn read<S: Source>(alloc: Global, source: &mut S) -> Result<Scenario, ScenarioFault>
     ensures says { IfSome (S.left source.old) (λ input. Answers result (reading input)) }
     ensures took { IfSome (S.left source.old) (λ input. Took result input (S.left source.new)) }
@@ -48,8 +47,8 @@ pub fn read<S: Source>(alloc: Global, source: &mut S) -> Result<Scenario, Scenar
     let mut reader = Reader::new(alloc);
     let mut buf = [0; 4096];
     let mut taken: usize = 0;
-    while taken < MOST_BYTES {
-        let want = (MOST_BYTES - taken).min(4096);
+    while taken < MOST_TEXT_BYTES {
+        let want = (MOST_TEXT_BYTES - taken).min(4096);
         let n = next_piece(source, &mut buf, want)?;
         if n == 0 {
             return reader.end();

@@ -1,12 +1,13 @@
 //! Scenarios.
 ghost use Rattle.std.specs.Prelude.{◌≡◌, ◌≤◌, length, IfSome, IfNone, Ok};
+ghost use Rattle.lg_model.specs.declared.limits.TheConstants.{MOST_TEXT_BYTES};
 ghost use Rattle.lg_model.specs.Scenario as model;
-ghost use Rattle.scenario_parts.specs.Parts.{ArePlaces};
+ghost use Rattle.scenario_parts.specs.Parts.{AreInRange};
 ghost use Rattle.scenario_parts.specs.Printed.{text_of};
 ghost use Rattle.scenario_parts.specs.Whole.{IsWhole};
 ghost use Rattle.scenario_text.specs.Text.{reading};
 ghost use Rattle.scenario_text.specs.New.{parts_of, IsUnsaid};
-ghost use Rattle.scenario_lines.specs.Draft.{view, scenario_of, Fits};
+ghost use Rattle.scenario_lines.specs.Draft.{view, scenario_of, FitsSoFar};
 
 use lg_model::{Ask, Flow, HostLine, Pick, Step};
 use row_hash::Shape;
@@ -44,7 +45,7 @@ impl Scenario {
     /// The scenario of these parts. It takes no memory.
     ///
     /// None exactly where a position in the parts is out of range, or the text that [`print`](crate::print) would write
-    /// of them is no scenario text; it may be too long to be one. The parts are let go then.
+    /// of them is no scenario text; it may be too long to be one. The parts are dropped then.
     pub fn new(
         shape: Shape,
         pick: Pick,
@@ -55,7 +56,7 @@ impl Scenario {
         asks: Vec<Ask>,
     ) -> Option<Scenario>
         ensures some { IfSome result (λ s. s ≡ parts_of shape pick hosts.items switches.items flows.items steps.items asks.items) }
-        ensures said { IfSome result (λ s. ArePlaces s × (reading (text_of s) ≡ Ok s)) }
+        ensures said { IfSome result (λ s. AreInRange s × (reading (text_of s) ≡ Ok s)) }
         ensures none { IfNone result (IsUnsaid (parts_of shape pick hosts.items switches.items flows.items steps.items asks.items)) }
     {
         let parts = Parts {
@@ -92,8 +93,8 @@ impl Scenario {
 
     // The scenario of what the lines of a text have said.
     pub(crate) fn of(draft: Draft) -> Scenario
-        requires fits { Fits draft }
-        requires short { length (text_of (scenario_of (view draft))) ≤ 16777216 }
+        requires fits { FitsSoFar draft }
+        requires short { length (text_of (scenario_of (view draft))) ≤ MOST_TEXT_BYTES }
         ensures { result ≡ scenario_of (view draft) }
     {
         let Draft {

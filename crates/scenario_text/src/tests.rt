@@ -14,7 +14,7 @@ use std::test::Fail;
 const FIRST: &str =
     "guardian 1\nshape 2 1 ports\npick turns\nhost 1\nswitch 1\nflow 1 10.0.0.1 10.0.0.2 6 2 1 host 1 path 1\npacket 1 1500 20\nend 1\npacket 1 100 5\nask 1 1 0\ndone\n";
 
-// The three first lines, and a host and a switch of the name 1.
+// The first three lines, and a host and a switch of the name 1.
 const HEAD: &str = "guardian 1\nshape 2 1 ports\npick turns\nhost 1\nswitch 1\n";
 
 // The head and a flow.
@@ -152,8 +152,8 @@ fn whole_texts(rt: HostRuntime) -> Result<(), Fail> {
     Ok(())
 }
 
-// The first faulty line behind these lines.
-fn behind(
+// The first faulty line after these lines.
+fn after(
     rt: &impl Abort,
     alloc: Global,
     lines: &str,
@@ -224,7 +224,7 @@ fn declarations(rt: HostRuntime) -> Result<(), Fail> {
         ("end\n", Why::WordCount),
         ("shape 2 1 ports\n", Why::OutOfPlace),
     ] {
-        assert_eq!(rt; behind(&rt, rt.alloc(), HEAD, line)?, bad(6, why), "{line}");
+        assert_eq!(rt; after(&rt, rt.alloc(), HEAD, line)?, bad(6, why), "{line}");
     }
     Ok(())
 }
@@ -251,7 +251,7 @@ fn steps(rt: HostRuntime) -> Result<(), Fail> {
         ("ask 1 1\n", Why::WordCount),
         ("ask 1 1 0 0\n", Why::WordCount),
     ] {
-        assert_eq!(rt; behind(&rt, rt.alloc(), FLOW, line)?, bad(7, why), "{line}");
+        assert_eq!(rt; after(&rt, rt.alloc(), FLOW, line)?, bad(7, why), "{line}");
     }
     for line in [
         "flow 2 10.0.0.1 10.0.0.2 6 2 1 host 1 path 1\n",
@@ -292,12 +292,12 @@ fn texts_that_are_long(rt: HostRuntime) -> Result<(), Fail> {
         bad(16_777_207, Why::TooLong)
     );
 
-    // One line, and `done` behind the bytes that are looked at.
+    // One line, and `done` after the bytes that are looked at.
     let mut text = b"#".to_vec(rt.alloc())?;
     text.resize(16_777_216, b'x')?;
     text.extend_from_slice(b"\nguardian 1\nshape 1 1 ports\npick turns\ndone\n")?;
-    let mut behind = source(rt.alloc(), &text, 4096)?;
-    assert_eq!(rt; read(rt.alloc(), &mut behind).err(), bad(1, Why::TooLong));
+    let mut late = source(rt.alloc(), &text, 4096)?;
+    assert_eq!(rt; read(rt.alloc(), &mut late).err(), bad(1, Why::TooLong));
     Ok(())
 }
 
@@ -312,7 +312,7 @@ fn a_source_that_fails(rt: HostRuntime) -> Result<(), Fail> {
             "{failing}"
         );
     }
-    // The call behind the one that decides is never made.
+    // The call after the one that decides is never made.
     let calls = [22].to_vec(rt.alloc())?;
     let mut source = MemorySource::new(FIRST.as_bytes().to_vec(rt.alloc())?, 7, calls);
     assert!(rt; read(rt.alloc(), &mut source).is_ok());

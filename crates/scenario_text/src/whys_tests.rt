@@ -10,8 +10,8 @@ use std::test::Fail;
 const NET: &str =
     "guardian 1\nshape 2 8 seed 5\npick chance 7\nhost 1\nhost 2\nswitch 1\nswitch 2\nflow 1 10.0.0.1 10.0.0.2 6 2 1 host 2 path 2 1\n";
 
-// The fault of the net's lines, of so many times the second lines, and of the third.
-fn behind_net(
+// The fault of the net's lines, of the second lines repeated that many times, and of the third.
+fn after_net(
     rt: &impl Abort,
     alloc: Global,
     times: usize,
@@ -45,7 +45,7 @@ fn packets(rt: HostRuntime) -> Result<(), Fail> {
         ("packet 3 100 5 6\n", Why::UnknownName),
     ] {
         assert_eq!(rt;
-            behind_net(&rt, rt.alloc(), 0, "", line)?,
+            after_net(&rt, rt.alloc(), 0, "", line)?,
             bad(9, why),
             "{line}"
         );
@@ -86,7 +86,7 @@ fn names_and_letters(rt: HostRuntime) -> Result<(), Fail> {
         ("shape 9 1 ports\n", Why::OutOfPlace),
     ] {
         assert_eq!(rt;
-            behind_net(&rt, rt.alloc(), 0, "", line)?,
+            after_net(&rt, rt.alloc(), 0, "", line)?,
             bad(9, why),
             "{line}"
         );
@@ -99,7 +99,7 @@ fn names_and_letters(rt: HostRuntime) -> Result<(), Fail> {
         ("packet 1 1 1 1\n", "switches 3\n", Why::UnknownWord),
     ] {
         assert_eq!(rt;
-            behind_net(&rt, rt.alloc(), 1, line, next)?,
+            after_net(&rt, rt.alloc(), 1, line, next)?,
             bad(10, why),
             "{next}"
         );
@@ -119,7 +119,7 @@ fn paths_and_long_words(rt: HostRuntime) -> Result<(), Fail> {
     ] {
         let line = if why == Why::NoDone { 24 } else { 23 };
         assert_eq!(rt;
-            behind_net(&rt, rt.alloc(), 1, path, more)?,
+            after_net(&rt, rt.alloc(), 1, path, more)?,
             bad(line, why),
             "{more}"
         );
@@ -177,7 +177,7 @@ fn limits(rt: HostRuntime) -> Result<(), Fail> {
         (9999, "ask 1 1 0\n", "ask 1 1 0\ndone\n", None),
     ] {
         assert_eq!(rt;
-            behind_net(&rt, rt.alloc(), times, lines, more)?,
+            after_net(&rt, rt.alloc(), times, lines, more)?,
             want,
             "{times} {more}"
         );
@@ -185,7 +185,7 @@ fn limits(rt: HostRuntime) -> Result<(), Fail> {
     Ok(())
 }
 
-// The head of a text, so many lines of a declaration with the names from 0 on, and one more.
+// The head of a text, that many lines of a declaration with the names from 0 on, and one more.
 fn declared(
     rt: &impl Abort,
     alloc: Global,

@@ -5,8 +5,8 @@ pub record Grown (old now : List ℕ) : Type 0 where
   pub longer : length old ≤ length now
   pub kept : take (length old) now ≡ old
 
-abbrev pub invariant-loop-places : goal.invariant-loop-places
-invariant-loop-places l = Grown l.fn.places.items l.places.items
+abbrev pub invariant-loop-positions : goal.invariant-loop-positions
+invariant-loop-positions l = Grown l.fn.positions.items l.positions.items
 
-abbrev pub decreases-loop-places : goal.decreases-loop-places
-decreases-loop-places l = l.len - length l.places.items
+abbrev pub decreases-loop-positions : goal.decreases-loop-positions
+decreases-loop-positions l = l.len - length l.positions.items

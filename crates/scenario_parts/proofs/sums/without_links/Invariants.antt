@@ -1,6 +1,6 @@
 use Rattle.std.proofs.Common.{◌≡◌, ◌+◌, take}
 use Rattle.std.specs.Prelude.{sum_by}
-use Rattle.scenario_lines.specs.Weight.{link_size}
+use Rattle.scenario_lines.specs.PrintedLen.{link_size}
 use Rattle.scenario_parts.proofs.sums.without_links.Given as goal
 
 abbrev pub invariant-loop-host : goal.invariant-loop-host

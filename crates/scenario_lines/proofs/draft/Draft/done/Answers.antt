@@ -3,5 +3,5 @@ use Rattle.scenario_lines.specs.Draft.{view}
 use Rattle.scenario_lines.proofs.WeightLemmas.{done_weighs}
 use Rattle.scenario_lines.proofs.draft.Draft.done.Goals as goal
 
-pub returns-clause-weight : goal.returns-clause-weight
-returns-clause-weight c = omega (arith, done_weighs (view c.args.self.now) c.requires.place)
+pub returns-clause-printed_len : goal.returns-clause-printed_len
+returns-clause-printed_len c = omega (arith, done_weighs (view c.args.self.now) c.requires.section)

@@ -13,5 +13,5 @@ returns-clause-fits c = step_more (view c.args.self.now) c.push.new.self.items E
 pub overflow_add-self : goal.overflow_add-self
 overflow_add-self c = grind (arith, common_steps, c.args.self.now.ended 0 (lit< tt))
 
-pub returns-clause-weight : goal.returns-clause-weight
-returns-clause-weight c = omega (arith, step_weighs (view c.args.self.now) c.push.new.self.items EndAll (open_end c.args.self.now.section c.requires.place) c.in_ok-push.ensures.items)
+pub returns-clause-printed_len : goal.returns-clause-printed_len
+returns-clause-printed_len c = omega (arith, step_weighs (view c.args.self.now) c.push.new.self.items EndAll (open_end c.args.self.now.section c.requires.section) c.in_ok-push.ensures.items)

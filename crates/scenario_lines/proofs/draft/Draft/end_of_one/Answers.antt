@@ -23,12 +23,12 @@ returns-clause-fits c =
     let room : ends_of c.in_ok-switch_at.switch_at c.args.self.now.steps.items < 65535 = omega (arith, c.in_ok-room_for.ensures.fits, c.ends_at.ensures) in
     step_more (view c.args.self.now) c.push.new.self.items (End c.in_ok-switch_at.switch_at) c.requires.fits at c.in_ok-push.ensures.items (omega (arith, c.requires.fits.scenario.few_packets)) (λ i lt. end_fits (view c.args.self.now) c.in_ok-switch_at.switch_at i c.requires.fits room lt) tt
 
-pub returns-clause-weight : goal.returns-clause-weight
-returns-clause-weight c =
+pub returns-clause-printed_len : goal.returns-clause-printed_len
+returns-clause-printed_len c =
     let name = rw c.deref.ensures.value at c.in_ok-switch_at.ensures.named in
     omega (
       arith,
-      step_weighs (view c.args.self.now) c.push.new.self.items (End c.in_ok-switch_at.switch_at) (open_end c.args.self.now.section c.requires.place) c.in_ok-push.ensures.items,
+      step_weighs (view c.args.self.now) c.push.new.self.items (End c.in_ok-switch_at.switch_at) (open_end c.args.self.now.section c.requires.section) c.in_ok-push.ensures.items,
       ap (λ (n : ℕ). length (decimal n)) name,
       c.in_ok-switch.ensures.taken,
       c.in_ok-end_field.ensures.taken,

@@ -3,5 +3,5 @@ use Rattle.scenario_lines.specs.Draft.{view}
 use Rattle.scenario_lines.proofs.WeightLemmas.{started_weighs}
 use Rattle.scenario_lines.proofs.draft.Draft.first.Goals as goal
 
-pub returns-then-is-clause-weight : goal.returns-then-is-clause-weight
-returns-then-is-clause-weight c = omega (arith, started_weighs (view c.args.self.now) c.requires.place, ap length (c.is.ensures.same c.if-is.true))
+pub returns-then-is-clause-printed_len : goal.returns-then-is-clause-printed_len
+returns-then-is-clause-printed_len c = omega (arith, started_weighs (view c.args.self.now) c.requires.section, ap length (c.is.ensures.same c.if-is.true))

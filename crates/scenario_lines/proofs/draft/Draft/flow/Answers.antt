@@ -15,17 +15,17 @@ returns-clause-fits c =
     let hops = rw c.deref-2.ensures.value at c.in_ok-hops.ensures.bound in
     let fits = flow_fits (length c.args.self.now.hosts.items) (length c.args.self.now.switches.items) flow c.in_ok-hops.hops.items c.new-path.ensures at hops c.in_ok-hops.ensures.some c.in_ok-hops.ensures.short in
     let line : IsFlowLine flow = record { name = omega (arith, c.in_ok-name.ensures.bound); key = c.in_ok-key.ensures.fits; once = rw c.new-path.ensures c.in_ok-hops.ensures.once } in
-    flow_more (view c.args.self.now) c.put_flow.new.flows.items flow c.put_flow.new.places.items c.requires fits c.in_ok-put_flow.ensures.added line (omega (arith, c.in_ok-room_for.ensures.fits)) c.put_flow.ensures.indexed
+    flow_more (view c.args.self.now) c.push_flow.new.flows.items flow c.push_flow.new.positions.items c.requires fits c.in_ok-push_flow.ensures.added line (omega (arith, c.in_ok-room_for.ensures.fits)) c.push_flow.ensures.indexed
 
-pub returns-clause-weight : goal.returns-clause-weight
-returns-clause-weight c =
+pub returns-clause-printed_len : goal.returns-clause-printed_len
+returns-clause-printed_len c =
     let flow : Flow = record { name = c.in_ok-name.name; key = c.in_ok-key.key; host_at = c.in_ok-host_at.host_at; path = c.new-path.result } in
     let host = rw c.deref.ensures.value at c.in_ok-host_at.ensures.named in
     let hops = rw c.deref-2.ensures.value at c.in_ok-hops.ensures.taken in
     let path = ap (λ (at : List ℕ). size (path_words c.args.self.now.switches.items at)) c.new-path.ensures in
     omega (
       arith,
-      flow_weighs (view c.args.self.now) c.put_flow.new.flows.items flow c.requires c.in_ok-put_flow.ensures.added,
+      flow_weighs (view c.args.self.now) c.push_flow.new.flows.items flow c.requires c.in_ok-push_flow.ensures.added,
       ap (λ (n : ℕ). length (decimal n)) host,
       path,
       hops,

@@ -12,8 +12,8 @@ returns-clause-fits c =
     let line : IsHostLine host = record { name = omega (arith, c.in_ok-name.ensures.bound); few_letters = omega (arith, ap length c.new-letters.ensures, ap length c.new.ensures.items) } in
     host_more (view c.args.self.now) c.push.new.self.items host c.requires c.in_ok-push.ensures.items (omega (arith, c.in_ok-room_for.ensures.fits, c.len.ensures)) line (rw c.deref.ensures.value at c.in_ok-new_host.ensures.fresh)
 
-pub returns-clause-weight : goal.returns-clause-weight
-returns-clause-weight c =
+pub returns-clause-printed_len : goal.returns-clause-printed_len
+returns-clause-printed_len c =
     let host : HostLine = record { name = c.in_ok-name.name; letters = c.new-letters.result } in
     let none : length host.letters ≡ 0 = omega (arith, ap length c.new-letters.ensures, ap length c.new.ensures.items) in
     omega (arith, host_weighs (view c.args.self.now) c.push.new.self.items host c.requires c.in_ok-push.ensures.items none, c.in_ok-name.ensures.taken)

@@ -19,14 +19,14 @@ returns-clause-fits c =
     (λ i lt. omega (arith, c.requires.fits.scenario.few_ends i lt))
     (omega (arith, c.in_ok-size.ensures.bound), rw c.new-delays.ensures c.in_ok-delays.ensures.small, c.in_ok-burst.ensures.some)
 
-pub returns-clause-weight : goal.returns-clause-weight
-returns-clause-weight c =
+pub returns-clause-printed_len : goal.returns-clause-printed_len
+returns-clause-printed_len c =
     let delays = ap (λ (ds : List ℕ). size (map decimal ds)) c.new-delays.ensures in
     let tail = size_append (map decimal c.new-delays.result) (burst_words c.in_ok-burst.burst ++ fate_words c.in_ok-fate.fate) in
     let end = size_append (burst_words c.in_ok-burst.burst) (fate_words c.in_ok-fate.fate) in
     omega (
       arith,
-      step_weighs (view c.args.self.now) c.push.new.self.items (Packet c.in_ok-flow_at.flow_at c.in_ok-size.size c.new-delays.result c.in_ok-burst.burst c.in_ok-fate.fate) (open_packet c.args.self.now.section c.requires.place) c.in_ok-push.ensures.items,
+      step_weighs (view c.args.self.now) c.push.new.self.items (Packet c.in_ok-flow_at.flow_at c.in_ok-size.size c.new-delays.result c.in_ok-burst.burst c.in_ok-fate.fate) (open_packet c.args.self.now.section c.requires.section) c.in_ok-push.ensures.items,
       delays,
       tail,
       end,

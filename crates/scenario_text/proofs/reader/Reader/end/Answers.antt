@@ -23,4 +23,4 @@ returns-else-is_done-clause-says c =
     rw (← c.if-is_done.ensures) at e
 
 pub scenario-requires-clause-short : goal.scenario-requires-clause-short
-scenario-requires-clause-short c = omega (arith, done_weighs (view c.line.new.self) (sym c.if-is_done.ensures), c.in-Ok.ensures.weight, ap length c.deref.ensures.value, c.requires.short)
+scenario-requires-clause-short c = omega (arith, done_weighs (view c.line.new.self) (sym c.if-is_done.ensures), c.in-Ok.ensures.printed_len, ap length c.deref.ensures.value, c.requires.short)

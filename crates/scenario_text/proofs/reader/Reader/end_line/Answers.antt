@@ -1,4 +1,4 @@
-use Rattle.std.proofs.Common.{◌∷◌, [], length, length-append, sym, arith}
+use Rattle.std.proofs.Common.{sym, arith}
 use Rattle.scenario_lines.specs.Draft.{view}
 use Rattle.scenario_text.proofs.LengthLemmas.{done_weighs}
 use Rattle.scenario_text.proofs.ReaderLemmas.{end_bad, end_well}
@@ -38,5 +38,5 @@ returns-clause-spent c = λ more.
     let f = rw (← c.if-is_done.ensures) at e in
     rw c.clear.ensures.items (omega (arith, f))
 
-pub returns-then-is_done-clause-weight : goal.returns-then-is_done-clause-weight
-returns-then-is_done-clause-weight c = omega (arith, done_weighs (view c.take_line.new.self.draft) (sym c.if-is_done.ensures), c.in-Ok.ensures.weight)
+pub returns-then-is_done-clause-printed_len : goal.returns-then-is_done-clause-printed_len
+returns-then-is_done-clause-printed_len c = omega (arith, done_weighs (view c.take_line.new.self.draft) (sym c.if-is_done.ensures), c.in-Ok.ensures.printed_len)

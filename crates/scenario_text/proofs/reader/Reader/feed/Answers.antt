@@ -1,6 +1,6 @@
 use Rattle.std.proofs.Common.{◌+◌, arith}
-use Rattle.scenario_text.proofs.ReaderLemmas.{line_is, same_line, done_line, bad_line, kept_rest}
-use Rattle.scenario_text.proofs.SpentLemmas.{line_len, same_needs_line, spent_done, spent_bad, spent_rest}
+use Rattle.scenario_text.proofs.ReaderLemmas.{line_is, same_line, done_line, bad_line}
+use Rattle.scenario_text.proofs.SpentLemmas.{line_len, same_needs_line, spent_done, spent_bad}
 use Rattle.scenario_text.proofs.reader.Reader.feed.Goals as goal
 
 pub returns-in-Ok-true-clause-fed : goal.returns-in-Ok-true-clause-fed
@@ -31,7 +31,7 @@ pub loop-len-preserved : goal.loop-len-preserved
 loop-len-preserved c =
     let fed = rw c.in-Ok-false.field-0-test at c.in-Ok-false.ensures.fed in
     let spent = rw c.in-Ok-false.field-0-test at c.in-Ok-false.ensures.spent in
-    let weight = rw c.in-Ok-false.field-0-test at c.in-Ok-false.ensures.weight in
+    let printed_len = rw c.in-Ok-false.field-0-test at c.in-Ok-false.ensures.printed_len in
     let here = c.in-Some.ensures.some in
     let line = line_is c.args.piece.now c.loop-len.from c.in-Some.len here in
     let len = line_len c.args.piece.now c.loop-len.from c.in-Some.len here in
@@ -40,6 +40,6 @@ loop-len-preserved c =
       same = same_line c.args.self.now c.loop-len.self c.end_line.new.self c.args.piece.now _ c.loop-len.from (c.loop-len.from + (c.in-Some.len + 1)) line c.loop-len.invariant.same fed;
       needs = same_needs_line c.args.self.now c.loop-len.self c.end_line.new.self c.args.piece.now _ c.loop-len.from (c.loop-len.from + (c.in-Some.len + 1)) line (omega (arith, len)) c.loop-len.invariant.needs spent;
       reader = c.in-Ok-false.ensures.reader;
-      weight = omega (arith, weight, c.loop-len.invariant.weight);
+      printed_len = omega (arith, printed_len, c.loop-len.invariant.printed_len);
       short = omega (arith, c.end_line.ensures.short, c.loop-len.invariant.short);
     }

@@ -1,5 +1,5 @@
 use Rattle.std.proofs.Common.{◌≤◌, ◌+◌, ◌-◌, length}
-use Rattle.scenario_text.specs.Reading.{IsReader, held}
+use Rattle.scenario_text.specs.Reading.{IsReader, len_so_far}
 use Rattle.scenario_text.proofs.ReaderLemmas.{Same}
 use Rattle.scenario_text.proofs.SpentLemmas.{SameNeeds}
 use Rattle.scenario_text.proofs.reader.Reader.feed.Given as goal
@@ -10,7 +10,7 @@ invariant-loop-len l = record {
   same : Same l.fn.self l.piece l.self l.from;
   needs : SameNeeds l.fn.self l.piece l.self l.from;
   reader : IsReader l.self;
-  weight : held l.self ≤ held l.fn.self + l.from;
+  printed_len : len_so_far l.self ≤ len_so_far l.fn.self + l.from;
   short : l.self.line ≤ l.fn.self.line + l.from;
 }
 

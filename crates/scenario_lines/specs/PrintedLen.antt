@@ -7,17 +7,18 @@ use Rattle.lg_model.specs.declared.scenario.Ask.{Ask}
 use Rattle.lg_model.specs.declared.scenario.Pick.{Pick}
 use Rattle.lg_model.specs.Placing.{Shape}
 use Rattle.scenario_lines.specs.declared.section.Section.{Section}
-use Rattle.scenario_lines.specs.declared.section.Section.TheVariants.{First, Second, Third, Declarations, Steps, Done}
+use Rattle.scenario_lines.specs.declared.section.Section.TheVariants as sections
+use Rattle.scenario_lines.specs.declared.section.Section.TheVariants.{Declarations, Steps, Done}
 use Rattle.scenario_lines.specs.declared.section.Keyword.{Keyword}
 use Rattle.scenario_lines.specs.declared.section.Keyword.TheVariants as words
 use Rattle.scenario_lines.specs.Spelling.{size, guardian_words, shape_line_words, pick_line_words, host_words, switch_words, flow_words, link_words, step_words, ask_words, done_words}
 use Rattle.scenario_lines.specs.Draft.{State}
 
--- The bytes of the three first lines, as far as they have come, and of the last line.
+-- The bytes of the first three lines, as far as they have come, and of the last line.
 abbrev pub frame_size : Section → Shape → Pick → ℕ
-frame_size First shape pick = 0
-frame_size Second shape pick = size guardian_words
-frame_size Third shape pick = size guardian_words + size (shape_line_words shape)
+frame_size sections.Version shape pick = 0
+frame_size sections.Shape shape pick = size guardian_words
+frame_size sections.Pick shape pick = size guardian_words + size (shape_line_words shape)
 frame_size Declarations shape pick = (size guardian_words + size (shape_line_words shape)) + size (pick_line_words pick)
 frame_size Steps shape pick = (size guardian_words + size (shape_line_words shape)) + size (pick_line_words pick)
 frame_size Done shape pick = ((size guardian_words + size (shape_line_words shape)) + size (pick_line_words pick)) + size done_words
@@ -35,10 +36,10 @@ abbrev pub happening_size : List ℕ → List Flow → List Step → List Ask �
 happening_size switches flows steps asks = sum_by (λ t. size (step_words flows switches t)) steps + sum_by (λ q. size (ask_words flows q)) asks
 
 -- The bytes of all lines that the parts so far print, each with its 0A.
-unfoldable pub weight : State → ℕ
-weight s = frame_size s.section s.shape s.pick + (declared_size s.hosts s.switches s.flows + happening_size s.switches s.flows s.steps s.asks)
+unfoldable pub printed_len : State → ℕ
+printed_len s = frame_size s.section s.shape s.pick + (declared_size s.hosts s.switches s.flows + happening_size s.switches s.flows s.steps s.asks)
 
--- The bytes of a first word and the space behind it.
+-- The bytes of a first word and the space after it.
 abbrev pub keyword_size : Keyword → ℕ
 keyword_size words.Guardian = 9
 keyword_size words.Shape = 6
