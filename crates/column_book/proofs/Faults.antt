@@ -50,7 +50,7 @@ pub fault_none : (f : Faulty) (cs : List Column) (i : ℕ) → length cs ≤ i �
 fault_none f cs i h so_far = sym (so_far ∙ ap (first_fault f) (drop_all i cs h))
 
 -- columns with no fault of size are of that size
-same_dims-Decides : (a b : Dims) → Decides (same_dims a b) (a ≡ b)
+pub same_dims-Decides : (a b : Dims) → Decides (same_dims a b) (a ≡ b)
 same_dims-Decides a b =
     let both = Decides-and _ _ (Decides-eqb a.rows b.rows) (Decides-eqb a.width b.width) in (
       (λ h. let same = both.0 h in λ i. record { rows = same.0 i; width = same.1 i }),

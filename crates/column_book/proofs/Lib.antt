@@ -12,3 +12,5 @@ pub mod Counting
 pub mod Applying
 pub mod Walks
 pub mod Sizes
+pub mod Joins
+pub mod Outcomes
