@@ -11,10 +11,10 @@ use Rattle.guardian_run.specs.declared.refusal.Refusal.TheVariants as refusals
 use Rattle.guardian_run.specs.declared.status.Status.{Status}
 use Rattle.guardian_run.specs.declared.status.Status.TheVariants as status
 use Rattle.guardian_run.specs.Changes.{Change, HasFailed, IsUntouched}
-use Rattle.guardian_run.specs.Commands.{HasOutput, HasCause, IsRefused}
+use Rattle.guardian_run.specs.Commands.{HasOutput, IsCause, IsRefused}
 use Rattle.report_text.specs.Faults.{usage_line, read_fault_line, no_memory_line, scenario_line}
-use Rattle.guardian_run.specs.Ends.{IsOutputEnd, IsRead, Answers, Says, Wrote, Draws, Puts, Ends}
-use Rattle.guardian_run.specs.Ending.{EndsWith, EndsAt, EndsRefused}
+use Rattle.guardian_run.specs.Ends.{IsOutputEnd, IsRead, IsAnswered, Says, Wrote, Draws, Puts, Ends}
+use Rattle.guardian_run.specs.Ending.{EndsWith, EndsWithLine, EndsRefused}
 
 -- what an input says that is told, and anything else where it is not
 abbrev said_by : Option (List ℕ) → Result Scenario Fault
@@ -144,12 +144,14 @@ at_no_memory command source sink refusal is puts = record {
 
 -- what ends at a status is as it is there
 at_status : (asked : Option Command) (source sink : Change) (at s : Status) (line : List ℕ) → (Puts at sink line → Ends asked source sink at) →
-    EndsAt at line sink s → Ends asked source sink s
+    EndsWithLine at line sink s → Ends asked source sink s
 at_status asked source sink at s line ends end = subst (λ t. Puts t sink line → Ends asked source sink t) (sym end.0) ends end.1
 
-starved : (command : Command) (source sink : Change) (s : Status) (refusal : Refusal) → IsRefused source refusal → EndsAt status.NoMemory no_memory_line sink s →
+starved : (command : Command) (source sink : Change) (s : Status) (refusal : Refusal) → IsRefused source refusal →
+    EndsWithLine status.NoMemory no_memory_line sink s →
     Ends (Some command) source sink s
-starved command source sink s refusal is end = at_status (Some command) source sink status.NoMemory s no_memory_line (at_no_memory command source sink refusal is) end
+starved command source sink s refusal is end =
+    at_status (Some command) source sink status.NoMemory s no_memory_line (at_no_memory command source sink refusal is) end
 
 ends_refused : (command : Command) (source sink : Change) (s : Status) (refusal : Refusal) → IsRefused source refusal → EndsRefused refusal sink s →
     Ends (Some command) source sink s
@@ -185,7 +187,8 @@ at_bad_words source sink left same puts = record {
   truth = search rules;
 }
 
-pub ends_unread : (asked : Option Command) (source sink : Change) (s : Status) → asked ≡ None → IsUntouched source → source.faults_old ≤ source.faults_new →
+pub ends_unread : (asked : Option Command) (source sink : Change) (s : Status) → asked ≡ None → IsUntouched source →
+    source.faults_old ≤ source.faults_new →
     EndsRefused refusals.BadWords sink s → Ends asked source sink s
 ends_unread asked source sink s none left same end = subst (λ a. Ends a source sink s) (sym none) (unread end)
   where
@@ -195,7 +198,8 @@ ends_unread asked source sink s none left same end = subst (λ a. Ends a source 
 
 -- ---- what a command gave
 
-pub ends_given : {T : Type 0} → (items : T → List ℕ) (asked : Option Command) (command : Command) (source sink : Change) (s : Status) (given : Result T Refusal) →
+pub ends_given : {T : Type 0} →
+    (items : T → List ℕ) (asked : Option Command) (command : Command) (source sink : Change) (s : Status) (given : Result T Refusal) →
     asked ≡ Some command →
     IfOk given (λ text. HasOutput command source (items text)) → IfErr given (IsRefused source) →
     IfOk given (λ text. EndsWith (items text) sink s) → IfErr given (λ refusal. EndsRefused refusal sink s) → Ends asked source sink s

@@ -52,12 +52,14 @@ range_more n = sym (same 0 (n + 1)) ∙ map-range_with_len_more (λ (k : ℕ). k
     same a zero = refl
     same a (suc n) = ap (λ xs. a ∷ xs) (same (a + 1) n)
 
-pub brought_more : (w : Scenario) (n : ℕ) → flat_map (brought w (picked w)) (range_with_len 0 (n + 1)) ≡ flat_map (brought w (picked w)) (range_with_len 0 n) ++ brought w (picked w) n
+pub brought_more : (w : Scenario) (n : ℕ) →
+    flat_map (brought w (picked w)) (range_with_len 0 (n + 1)) ≡ flat_map (brought w (picked w)) (range_with_len 0 n) ++ brought w (picked w) n
 brought_more w n =
     ap (flat_map (brought w (picked w))) (range_more n) ∙ flat_map-append (brought w (picked w)) (range_with_len 0 n) (n ∷ [])
     ∙ ap (λ xs. flat_map (brought w (picked w)) (range_with_len 0 n) ++ xs) (append-nil (brought w (picked w) n))
 
-pub content_more : (w : Scenario) (n : ℕ) (old new : Content) → old ≡ content_of (flat_map (brought w (picked w)) (range_with_len 0 n)) → new ≡ fold with_column old (brought w (picked w) n) →
+pub content_more : (w : Scenario) (n : ℕ) (old new : Content) → old ≡ content_of (flat_map (brought w (picked w)) (range_with_len 0 n)) →
+    new ≡ fold with_column old (brought w (picked w) n) →
     new ≡ content_of (flat_map (brought w (picked w)) (range_with_len 0 (n + 1)))
 content_more w n old new before is =
     is ∙ ap (λ (m : Content). fold with_column m (brought w (picked w) n)) before
@@ -81,17 +83,20 @@ hex_all ps cs i name start now all end is =
     is ∙ ap (λ (xs : List Column). start ++ column_lines name xs) (take_all i cs (omega (arith, end, matched_length IsPacked ps cs all)))
 
 -- the lines of one host more
-pub lines_more : (w : Scenario) (n : ℕ) (d : HostLine) (old new : List ℕ) → n < length w.hosts → old ≡ flat_map (host_lines w) (enumerate_from 0 (take n w.hosts)) →
+pub lines_more : (w : Scenario) (n : ℕ) (d : HostLine) (old new : List ℕ) → n < length w.hosts →
+    old ≡ flat_map (host_lines w) (enumerate_from 0 (take n w.hosts)) →
     new ≡ old ++ host_lines w (n, slice_index_or w.hosts n d) → new ≡ flat_map (host_lines w) (enumerate_from 0 (take (n + 1) w.hosts))
 lines_more w n d old new h before put =
     let x = slice_index_or w.hosts n d in
     let front : length (take n w.hosts) ≡ n = omega (arith, length-take n w.hosts) in
     put ∙ ap (λ xs. xs ++ host_lines w (n, x)) before
     ∙ sym (ap (λ xs. flat_map (host_lines w) (enumerate_from 0 xs)) (take_more w.hosts n d h)
-    ∙ ap (flat_map (host_lines w)) (enumerate_from-append 0 (take n w.hosts) (x ∷ []) ∙ ap (λ (k : ℕ). enumerate_from 0 (take n w.hosts) ++ (k, x) ∷ []) (zero-add (length (take n w.hosts)) ∙ front))
+    ∙ ap (flat_map (host_lines w)) (enumerate_from-append 0 (take n w.hosts) (x ∷ [])
+    ∙ ap (λ (k : ℕ). enumerate_from 0 (take n w.hosts) ++ (k, x) ∷ []) (zero-add (length (take n w.hosts)) ∙ front))
     ∙ flat_map-append (host_lines w) (enumerate_from 0 (take n w.hosts)) ((n, x) ∷ [])
     ∙ ap (λ xs. flat_map (host_lines w) (enumerate_from 0 (take n w.hosts)) ++ xs) (append-nil (host_lines w (n, x))))
 
 -- the host that the code reads
-pub host_known : (w : Scenario) (n : ℕ) (hs : List HostLine) (x : HostLine) → hs ≡ w.hosts → x ≡ slice_index_or hs n x → slice_index_or w.hosts n x ≡ x
+pub host_known : (w : Scenario) (n : ℕ) (hs : List HostLine) (x : HostLine) → hs ≡ w.hosts → x ≡ slice_index_or hs n x →
+    slice_index_or w.hosts n x ≡ x
 host_known w n hs x same is = ap (λ (ys : List HostLine). slice_index_or ys n x) (sym same) ∙ sym is

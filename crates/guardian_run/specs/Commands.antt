@@ -24,15 +24,15 @@ pub record HasOutput (command : Command) (source : Change) (text : List ℕ) : T
   pub never_falls : source.faults_old ≤ source.faults_new
 
 -- Why a command has none, by what the source has said and done.
-abbrev pub HasCause : Refusal → Change → Type 0
-HasCause refusals.BadWords source = ⊥
-HasCause (refusals.BadScenario n why) source = IfSome source.old (λ input. (reading input ≡ Err (n, why)) × IsTaken input source.new)
-HasCause refusals.ReadFault source = HasFailed source
-HasCause refusals.Memory source = Unit {0}
+abbrev pub IsCause : Refusal → Change → Type 0
+IsCause refusals.BadWords source = ⊥
+IsCause (refusals.BadScenario n why) source = IfSome source.old (λ input. (reading input ≡ Err (n, why)) × IsTaken input source.new)
+IsCause refusals.ReadFault source = HasFailed source
+IsCause refusals.Memory source = Unit {0}
 
 -- A command is refused over its source.
 pub record IsRefused (source : Change) (refusal : Refusal) : Type 0 where
-  pub cause : HasCause refusal source
+  pub cause : IsCause refusal source
   pub never_falls : source.faults_old ≤ source.faults_new
 
 -- The refusal of a scenario text that cannot be had.

@@ -6,7 +6,7 @@ use Rattle.guardian_run.specs.declared.status.Status.{Status}
 use Rattle.guardian_run.specs.declared.status.Status.TheVariants as status
 use Rattle.guardian_run.specs.Changes.{Change}
 use Rattle.report_text.specs.Faults.{no_memory_line}
-use Rattle.guardian_run.specs.Refusals.{status_of, line_of}
+use Rattle.guardian_run.specs.Refusals.{status_of, fault_line}
 use Rattle.guardian_run.specs.Ends.{IsOutputEnd, Puts}
 
 -- An output is written, whole or up to where the sink failed.
@@ -14,8 +14,8 @@ abbrev pub EndsWith : (text : List ℕ) → (sink : Change) → Status → Type 
 EndsWith text sink s = IsOutputEnd s × Puts s sink text
 
 -- The line of a status is written.
-abbrev pub EndsAt : (at : Status) → (line : List ℕ) → (sink : Change) → Status → Type 0
-EndsAt at line sink s = (s ≡ at) × Puts s sink line
+abbrev pub EndsWithLine : (at : Status) → (line : List ℕ) → (sink : Change) → Status → Type 0
+EndsWithLine at line sink s = (s ≡ at) × Puts s sink line
 
 -- A line that has a number in it takes memory.
 abbrev pub TakesMemory : Refusal → Type 0
@@ -27,4 +27,4 @@ TakesMemory refusals.Memory = ⊥
 -- A refusal ends at its status with its line, or where there is no memory for that line at `NoMemory`.
 abbrev pub EndsRefused : Refusal → (sink : Change) → Status → Type 0
 EndsRefused refusal sink s =
-    EndsAt (status_of refusal) (line_of refusal) sink s ⊎ (TakesMemory refusal × EndsAt status.NoMemory no_memory_line sink s)
+    EndsWithLine (status_of refusal) (fault_line refusal) sink s ⊎ (TakesMemory refusal × EndsWithLine status.NoMemory no_memory_line sink s)

@@ -33,7 +33,7 @@ IsComplete s = (s ≡ status.Ok) ⊎ (s ≡ status.NoMemory)
 
 -- Why a status is answered, where `asked` is the command that the words ask for, if they are one, and `said` is what the
 -- input says.
-pub record Answers (asked : Option Command) (said : Result Scenario Fault) (source sink : Change) (s : Status) : Type 0 where
+pub record IsAnswered (asked : Option Command) (said : Result Scenario Fault) (source sink : Change) (s : Status) : Type 0 where
   -- Not a command: exactly at `BadWords`.
   pub words : s ≡ status.BadWords ↔ asked ≡ None
   -- No scenario text: exactly at `BadScenario`, unless the call was cut short.
@@ -104,7 +104,7 @@ pub record Ends (asked : Option Command) (source sink : Change) (s : Status) : T
   pub said : Result Scenario Fault
   pub text : List ℕ
   pub input : IfSome source.old (λ input. reading input ≡ said)
-  pub answers : Answers asked said source sink s
+  pub answers : IsAnswered asked said source sink s
   pub says : Says asked said s text
   pub draws : Draws s source
   pub puts : Puts s sink text

@@ -14,8 +14,8 @@ status_of refusals.ReadFault = status.ReadFault
 status_of refusals.Memory = status.NoMemory
 
 -- And its line.
-abbrev pub line_of : Refusal → List ℕ
-line_of refusals.BadWords = usage_line
-line_of (refusals.BadScenario n why) = scenario_line (n, why)
-line_of refusals.ReadFault = read_fault_line
-line_of refusals.Memory = no_memory_line
+abbrev pub fault_line : Refusal → List ℕ
+fault_line refusals.BadWords = usage_line
+fault_line (refusals.BadScenario n why) = scenario_line (n, why)
+fault_line refusals.ReadFault = read_fault_line
+fault_line refusals.Memory = no_memory_line

@@ -30,34 +30,41 @@ other_key : (k q : Key) (o : Ordering) → key_cmp q k ≡ o → rank o ≢ 1 �
 other_key k q o is far same = far (ap rank (sym is ∙ ap (λ (x : Key). key_cmp q x) same ∙ same_key q))
 
 -- what is found after an insertion has what the new and the old have
-pub agrees_more : (P : Key → Cells → Type 0) (q k : Key) (v : Cells) (es : Content) → P k v → IfSome (found es q) (P q) → IfSome (found (insert_entry key_cmp es k v) q) (P q)
+pub agrees_more : (P : Key → Cells → Type 0) (q k : Key) (v : Cells) (es : Content) → P k v → IfSome (found es q) (P q) →
+    IfSome (found (insert_entry key_cmp es k v) q) (P q)
 agrees_more P q k v [] new old = (elim (key_cmp q k) as (λ o. key_cmp q k ≡ o → IfSome (cond (is_eq o) (Some v) None) (P q)) [
   | Less ↦ λ same. tt
   | Equal ↦ λ same. subst (λ (x : Key). P x v) (sym (one_key q k same)) new
   | Greater ↦ λ same. tt
 ]) refl
 agrees_more P q k v (e ∷ es) new old =
-    (elim (key_cmp k e.0) as (λ o. key_cmp k e.0 ≡ o → IfSome (lookup (is_at (key_cmp q)) (match_ordering o ((k, v) ∷ e ∷ es) ((e.0, v) ∷ es) (e ∷ insert_entry key_cmp es k v))) (P q)) [
+    (elim (key_cmp k e.0) as (λ o. key_cmp k e.0 ≡ o →
+    IfSome (lookup (is_at (key_cmp q)) (match_ordering o ((k, v) ∷ e ∷ es) ((e.0, v) ∷ es) (e ∷ insert_entry key_cmp es k v))) (P q)) [
       | Less ↦ λ same. (elim (key_cmp q k) as (λ o. key_cmp q k ≡ o → IfSome (cond (is_eq o) (Some v) (found (e ∷ es) q)) (P q)) [
         | Less ↦ λ s. old
         | Equal ↦ λ s. subst (λ (x : Key). P x v) (sym (one_key q k s)) new
         | Greater ↦ λ s. old
       ]) refl
-      | Equal ↦ λ same. (elim (key_cmp q e.0) as (λ o. key_cmp q e.0 ≡ o → IfSome (cond (is_eq o) (Some e.1) (found es q)) (P q) → IfSome (cond (is_eq o) (Some v) (found es q)) (P q)) [
+      | Equal ↦ λ same. (elim (key_cmp q e.0) as (λ o. key_cmp q e.0 ≡ o → IfSome (cond (is_eq o) (Some e.1) (found es q)) (P q) →
+      IfSome (cond (is_eq o) (Some v) (found es q)) (P q)) [
         | Less ↦ λ s h. h
         | Equal ↦ λ s h. subst (λ (x : Key). P x v) (one_key k e.0 same ∙ sym (one_key q e.0 s)) new
         | Greater ↦ λ s h. h
       ]) refl old
-      | Greater ↦ λ same. (elim (is_eq (key_cmp q e.0)) as (λ b. IfSome (cond b (Some e.1) (found es q)) (P q) → IfSome (cond b (Some e.1) (found (insert_entry key_cmp es k v) q)) (P q)) [
+      | Greater ↦ λ same. (elim (is_eq (key_cmp q e.0)) as (λ b. IfSome (cond b (Some e.1) (found es q)) (P q) →
+      IfSome (cond b (Some e.1) (found (insert_entry key_cmp es k v) q)) (P q)) [
         | true ↦ λ h. h
         | false ↦ λ h. agrees_more P q k v es new h
       ]) old
     ]) refl
 
 -- what columns say alike is said of what is found
-pub agrees_all : (P : Key → Cells → Type 0) (q : Key) (cs : List Column) (es : Content) → All (λ (c : Column). P c.key c.cells) cs → IfSome (found es q) (P q) → IfSome (found (fold with_column es cs) q) (P q)
+pub agrees_all : (P : Key → Cells → Type 0) (q : Key) (cs : List Column) (es : Content) → All (λ (c : Column). P c.key c.cells) cs →
+    IfSome (found es q) (P q) → IfSome (found (fold with_column es cs) q) (P q)
 agrees_all P q [] es all old = old
-agrees_all P q (c ∷ cs) es all old = agrees_all P q cs (with_column es c) (All-tail (λ (x : Column). P x.key x.cells) c cs all) (agrees_more P q c.key c.cells es (All-head (λ (x : Column). P x.key x.cells) c cs all) old)
+agrees_all P q (c ∷ cs) es all old =
+    let Of : Column → Type 0 = λ x. P x.key x.cells in
+    agrees_all P q cs (with_column es c) (All-tail Of c cs all) (agrees_more P q c.key c.cells es (All-head Of c cs all) old)
 
 abbrev pub how_many : Option Cells → ℕ
 how_many None = 0
@@ -71,25 +78,29 @@ none_before q k v [] none = (elim (key_cmp q k) as (λ o. key_cmp q k ≡ o → 
   | Greater ↦ λ s h. (refl, other_key k q Greater s (λ x. absurd (omega (arith, x))))
 ]) refl none
 none_before q k v (e ∷ es) none =
-    (elim (key_cmp k e.0) as (λ o. key_cmp k e.0 ≡ o → lookup (is_at (key_cmp q)) (match_ordering o ((k, v) ∷ e ∷ es) ((e.0, v) ∷ es) (e ∷ insert_entry key_cmp es k v)) ≡ None → (found (e ∷ es) q ≡ None) × (k ≢ q)) [
+    (elim (key_cmp k e.0) as (λ o. key_cmp k e.0 ≡ o →
+    lookup (is_at (key_cmp q)) (match_ordering o ((k, v) ∷ e ∷ es) ((e.0, v) ∷ es) (e ∷ insert_entry key_cmp es k v)) ≡ None → (found (e ∷ es) q ≡ None) × (k ≢ q)) [
       | Less ↦ λ same. (elim (key_cmp q k) as (λ o. key_cmp q k ≡ o → cond (is_eq o) (Some v) (found (e ∷ es) q) ≡ None → (found (e ∷ es) q ≡ None) × (k ≢ q)) [
         | Less ↦ λ s h. (h, other_key k q Less s (λ x. absurd (omega (arith, x))))
         | Equal ↦ λ s h. let x = ap how_many h in absurd (omega (arith, x))
         | Greater ↦ λ s h. (h, other_key k q Greater s (λ x. absurd (omega (arith, x))))
       ]) refl
-      | Equal ↦ λ same. (elim (key_cmp q e.0) as (λ o. key_cmp q e.0 ≡ o → cond (is_eq o) (Some v) (found es q) ≡ None → (cond (is_eq o) (Some e.1) (found es q) ≡ None) × (k ≢ q)) [
+      | Equal ↦ λ same. (elim (key_cmp q e.0) as (λ o. key_cmp q e.0 ≡ o → cond (is_eq o) (Some v) (found es q) ≡ None →
+      (cond (is_eq o) (Some e.1) (found es q) ≡ None) × (k ≢ q)) [
         | Less ↦ λ s h. (h, other_key k q Less (ap (λ (x : Key). key_cmp q x) (one_key k e.0 same) ∙ s) (λ x. absurd (omega (arith, x))))
         | Equal ↦ λ s h. let x = ap how_many h in absurd (omega (arith, x))
         | Greater ↦ λ s h. (h, other_key k q Greater (ap (λ (x : Key). key_cmp q x) (one_key k e.0 same) ∙ s) (λ x. absurd (omega (arith, x))))
       ]) refl
-      | Greater ↦ λ same. (elim (is_eq (key_cmp q e.0)) as (λ b. cond b (Some e.1) (found (insert_entry key_cmp es k v) q) ≡ None → (cond b (Some e.1) (found es q) ≡ None) × (k ≢ q)) [
+      | Greater ↦ λ same. (elim (is_eq (key_cmp q e.0)) as (λ b. cond b (Some e.1) (found (insert_entry key_cmp es k v) q) ≡ None →
+      (cond b (Some e.1) (found es q) ≡ None) × (k ≢ q)) [
         | true ↦ λ h. let x = ap how_many h in absurd (omega (arith, x))
         | false ↦ λ h. none_before q k v es h
       ])
     ]) refl none
 
 -- where nothing is found under a key, none of the columns has it
-pub none_has : (q : Key) (cs : List Column) (es : Content) → found (fold with_column es cs) q ≡ None → (found es q ≡ None) × All (λ (c : Column). c.key ≢ q) cs
+pub none_has : (q : Key) (cs : List Column) (es : Content) → found (fold with_column es cs) q ≡ None →
+    (found es q ≡ None) × All (λ (c : Column). c.key ≢ q) cs
 none_has q [] es none = (none, All-nil (λ (c : Column). c.key ≢ q))
 none_has q (c ∷ cs) es none =
     let rest = none_has q cs (with_column es c) none in

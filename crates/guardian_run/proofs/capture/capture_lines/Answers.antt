@@ -19,8 +19,11 @@ loop-at-preserved c =
     let at = c.loop-at.at in
     let inside : at < length w.hosts = omega (arith, c.loop-at-test.true, ap length c.hosts-hosts.ensures.value) in
     let came : Matched IsPacked c.arrived-arrived.result.now (brought w (picked w) at) =
-    subst (λ xs. Matched IsPacked xs (brought w (picked w) at)) (sym c.arrived-arrived.ensures) (c.requires.each at (omega (arith, inside, c.requires.hosts))) in
-    let here : slice_index_or w.hosts at c.index-hosts-at.result ≡ c.index-hosts-at.result = host_known w at c.hosts-hosts.result.now c.index-hosts-at.result c.hosts-hosts.ensures.value c.index-hosts-at.is in
+    subst (λ xs. Matched IsPacked xs (brought w (picked w) at)) (sym c.arrived-arrived.ensures)
+    (c.requires.each at (omega (arith, inside, c.requires.hosts))) in
+    let host = c.index-hosts-at.result in
+    let here : slice_index_or w.hosts at host ≡ host =
+    host_known w at c.hosts-hosts.result.now host c.hosts-hosts.ensures.value c.index-hosts-at.is in
     let put : c.put_host.new.text.items ≡ c.loop-at.text.items ++ host_lines w (at, slice_index_or w.hosts at c.index-hosts-at.result) =
     c.in_ok-put_host.ensures ∙ sym (ap (λ (x : HostLine). c.loop-at.text.items ++ host_lines w (at, x)) here) in
     record {

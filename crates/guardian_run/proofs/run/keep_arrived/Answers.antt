@@ -23,7 +23,8 @@ keep-requires c =
     let inside = c.loop-packed-test.true in
     let is = c.unpacked-column.ensures (slice_index_or cs i no_column) (packed_is c.args.arrived.now cs i c.requires.arrived inside) in
     let low : i < length cs = omega (arith, inside, matched_length IsPacked c.args.arrived.now cs c.requires.arrived) in
-    ap (λ (x : Column). x.dims) is ∙ brought_dims w (picked w) c.args.host_at i no_column low ∙ ap dims_of (sym (c.loop-packed.invariant.shape ∙ c.requires.shape))
+    ap (λ (x : Column). x.dims) is ∙ brought_dims w (picked w) c.args.host_at i no_column low
+    ∙ ap dims_of (sym (c.loop-packed.invariant.shape ∙ c.requires.shape))
 
 pub loop-packed-preserved : goal.loop-packed-preserved
 loop-packed-preserved c =

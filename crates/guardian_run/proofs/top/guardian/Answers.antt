@@ -6,7 +6,8 @@ use Rattle.guardian_run.proofs.top.guardian.Goals as goal
 pub returns-in-Some-Run : goal.returns-in-Some-Run
 returns-in-Some-Run g c =
     let same = sym c.command.ensures ∙ c.in-Some-Run.is ∙ ap Some c.in-Some-Run.field-0-is in
-    ends_given (λ text. text.items) _ Run _ _ c.end.result c.run.result same c.run.ensures.output c.run.ensures.refused c.end.ensures.output c.end.ensures.refused
+    ends_given (λ text. text.items) _ Run _ _ c.end.result c.run.result same
+    c.run.ensures.output c.run.ensures.refused c.end.ensures.output c.end.ensures.refused
 
 pub returns-in-Some-Capture : goal.returns-in-Some-Capture
 returns-in-Some-Capture g c =
