@@ -7,6 +7,7 @@
 //! | [`put_columns_line`], [`put_sketchlets_line`] | the last line of a report, and of a capture |
 //! | [`hex_line`], [`put_hex_line`] | the line of a sketchlet |
 //! | [`scenario_line`], [`put_scenario_line`] | the line of a scenario text that is refused |
+//! | [`full_line`], [`put_full_line`] | the line of a book that has no room |
 //! | [`usage_line`], [`read_fault_line`], [`no_memory_line`] | the fault lines that never change |
 //! | [`put_text`], [`put_number`] | what other lines are written with |
 //!
@@ -21,5 +22,8 @@ mod tests;
 
 pub use answers::{answer_line, put_answer_line, put_columns_line};
 pub use captures::{hex_line, put_hex_line, put_sketchlets_line};
-pub use faults::{no_memory_line, put_scenario_line, read_fault_line, scenario_line, usage_line};
+pub use faults::{
+    full_line, no_memory_line, put_full_line, put_scenario_line, read_fault_line, scenario_line,
+    usage_line,
+};
 pub use text_out::{put_number, put_text};
