@@ -2,6 +2,7 @@
 ghost use Rattle.std.specs.Prelude.{◌≡◌, ◌++◌, codes, IfOk};
 ghost use Rattle.scenario_lines.specs.Whys.{why_text};
 ghost use Rattle.text_out.specs.Appending.{AppendsText};
+ghost use Rattle.text_out.specs.Words.{field};
 ghost use Rattle.report_text.specs.Faults as faults;
 
 use lg_base::Memory;
@@ -57,5 +58,35 @@ pub fn scenario_line(alloc: Global, line: u32, why: Why) -> Result<Vec<u8>, Memo
 {
     let mut text = Vec::new(alloc);
     put_scenario_line(&mut text, line, why)?;
+    Ok(text)
+}
+
+// The counts of a book that has no room: `guardian: full with H and M`.
+fn put_counts(out: &mut Vec<u8>, held: u32, more: u32) -> Result<(), Memory>
+    ensures { AppendsText result out.old.items out.new.items (field (codes "guardian: full with ") held ++ field (codes " and ") more) }
+{
+    put_field(out, b"guardian: full with ", u64::from(held))?;
+    put_field(out, b" and ", u64::from(more))?;
+    Ok(())
+}
+
+/// Appends `guardian: full with H and M more` and the byte 10: the columns that a book has, and the new ones of an upload
+/// for which it has no room. At `Memory` what stood before is kept, and a part of the line may stand after it.
+#[tactic(auto, using(text_out::proofs::Keeping::keeps_itself, text_out::proofs::Keeping::keeps_after), unfolding(crate::specs::Faults::full_line))]
+pub fn put_full_line(out: &mut Vec<u8>, held: u32, more: u32) -> Result<(), Memory>
+    ensures { AppendsText result out.old.items out.new.items (faults.full_line held more) }
+{
+    put_counts(out, held, more)?;
+    put_text(out, b" more")?;
+    put_text(out, b"\n")?;
+    Ok(())
+}
+
+/// The line that [`put_full_line`] appends, alone. `Memory` comes only where memory runs out.
+pub fn full_line(alloc: Global, held: u32, more: u32) -> Result<Vec<u8>, Memory>
+    ensures { IfOk result (λ text. text.items ≡ faults.full_line held more) }
+{
+    let mut text = Vec::new(alloc);
+    put_full_line(&mut text, held, more)?;
     Ok(text)
 }

@@ -10,6 +10,7 @@
 //! | [`row_line`], [`put_row_line`] | the line of a row of a sketch |
 //! | [`acked_line`], [`put_acked_line`] | the line of an acknowledged upload |
 //! | [`scenario_line`], [`put_scenario_line`] | the line of a scenario text that is refused |
+//! | [`full_line`], [`put_full_line`] | the line of a book that has no room |
 //! | [`usage_line`], [`read_fault_line`], [`no_memory_line`] | the fault lines that never change |
 //! | [`put_text`], [`put_number`] | what other lines are written with |
 //!
@@ -30,5 +31,8 @@ pub use captures::{hex_line, put_hex_line, put_sketchlets_line};
 pub use columns::{
     acked_line, column_line, put_acked_line, put_column_line, put_row_line, row_line,
 };
-pub use faults::{no_memory_line, put_scenario_line, read_fault_line, scenario_line, usage_line};
+pub use faults::{
+    full_line, no_memory_line, put_full_line, put_scenario_line, read_fault_line, scenario_line,
+    usage_line,
+};
 pub use text_out::{put_number, put_text};

@@ -1,6 +1,7 @@
 use crate::{
-    answer_line, hex_line, no_memory_line, put_answer_line, put_columns_line, put_hex_line,
-    put_scenario_line, put_sketchlets_line, read_fault_line, scenario_line, usage_line,
+    answer_line, full_line, hex_line, no_memory_line, put_answer_line, put_columns_line,
+    put_full_line, put_hex_line, put_scenario_line, put_sketchlets_line, read_fault_line,
+    scenario_line, usage_line,
 };
 use lg_model::{Answer, Value};
 use scenario_lines::Why;
@@ -106,5 +107,13 @@ fn fault_lines(rt: HostRuntime) -> Result<(), Fail> {
         out.as_slice(),
         b"guardian: scenario line 1: no done\n".as_slice()
     );
+
+    let want = b"guardian: full with 262144 and 16 more\n".as_slice();
+    let line = full_line(rt.alloc(), 262144, 16)?;
+    assert_eq!(rt; line.as_slice(), want);
+
+    let mut out = Vec::new(rt.alloc());
+    put_full_line(&mut out, 0, 1)?;
+    assert_eq!(rt; out.as_slice(), b"guardian: full with 0 and 1 more\n".as_slice());
     Ok(())
 }

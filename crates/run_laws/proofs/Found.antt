@@ -11,7 +11,11 @@ use Rattle.std.proofs.lemmas.List.Elements.{All-nil, All-cons, All-head, All-tai
 use Rattle.lg_model.specs.declared.column.Key.{Key}
 use Rattle.lg_model.specs.Columns.{Cells, Column}
 use Rattle.lg_model.specs.Answer.{key_cmp, Content, found, with_column, content_of}
-use Rattle.column_book.proofs.Entries.{one_key}
+use Rattle.column_book.proofs.Keys.{one_key as told_one, is_at_key}
+
+-- keys that compare as equal are one
+one_key : (a b : Key) → key_cmp a b ≡ Equal → a ≡ b
+one_key a b h = told_one a b (sym (is_at_key a b) ∙ ap is_eq h)
 
 -- a key compares as equal to itself
 equal_to_itself : (n : ℕ) → nat_cmp n n ≡ Equal

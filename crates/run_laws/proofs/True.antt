@@ -58,7 +58,7 @@ Kept w k v = (s : ℕ) → IsSwitch w k.switch s → v ≡ frozen_cells w s k.ep
 abbrev pub Placed : Scenario → Type 0
 Placed w = All (IsPlaced w) (picked w)
 
-kept_all : (w : Scenario) → AreApart w.switches → Placed w → All (λ (c : Column). Kept w c.key c.cells) (brought_to_all w (picked w))
+pub kept_all : (w : Scenario) → AreApart w.switches → Placed w → All (λ (c : Column). Kept w c.key c.cells) (brought_to_all w (picked w))
 kept_all w own all = brought_made (λ (c : Column). Kept w c.key c.cells) w (picked w)
     (λ k d inside s is. let c = slice_index_or (picked w) k d in
     ap (λ n. frozen_cells w n c.epoch c.index) (sym (apart w.switches s c.switch_at own is.declared (all k d inside).declared is.named)))
@@ -72,7 +72,7 @@ agrees w name s e own all is j =
     its None h = tt
     its (Some v) h = h s is
 
-frozen_all : (w : Scenario) → Placed w → All (IsFrozen w) (brought_to_all w (picked w))
+pub frozen_all : (w : Scenario) → Placed w → All (IsFrozen w) (brought_to_all w (picked w))
 frozen_all w all = brought_made (IsFrozen w) w (picked w) (λ k d inside. record {
   switch_at = (slice_index_or (picked w) k d).switch_at;
   switch = record { declared = (all k d inside).declared; named = refl };

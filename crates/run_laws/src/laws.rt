@@ -1,4 +1,5 @@
 //! Laws over the definitions alone, on functions with empty bodies.
+ghost use Rattle.run_laws.specs.Booking.{LawOfBookings};
 ghost use Rattle.run_laws.specs.Truth.{LawOfTrueRuns};
 
 /// The law of true runs: in the run of any scenario, what the packets carry is allowed, each column that comes to a host
@@ -6,4 +7,11 @@ ghost use Rattle.run_laws.specs.Truth.{LawOfTrueRuns};
 /// (docs/DEFINITIONS.md, Answer).
 pub fn runs_are_true()
     ensures { LawOfTrueRuns }
+{}
+
+/// The law of bookings: where the uploads of a run are booked one after the other in an empty book, the one fault is that
+/// of too little room, and it comes exactly where the columns that came to the hosts have more keys than there is room
+/// for. Where there is none, the content of the book is that of all columns that came (docs/DEFINITIONS.md, Booking).
+pub fn bookings_hold()
+    ensures { LawOfBookings }
 {}

@@ -3,8 +3,9 @@
 //! | Item | What it is |
 //! |---|---|
 //! | [`runs_are_true`] | the law: what a run's output says of the network is true |
+//! | [`bookings_hold`] | the law: a book of a run has all that came to the hosts, or is too small for it |
 #![tactic(auto)]
 
 mod laws;
 
-pub use laws::runs_are_true;
+pub use laws::{bookings_hold, runs_are_true};
