@@ -32,7 +32,8 @@ pub(crate) fn put_new(blocks: &mut Blocks, keys: &mut Vec<Key>, columns: &[Colum
     requires upload { IsUpload columns.now }
     requires made { All (λ c. kept_at blocks.old.map.entries c.key ≡ None → IsMade blocks.old.map.entries (spot c.key)) columns.now }
     requires room { length keys.old.items + length (filter (is_free blocks.old.map.entries) columns.now) ≤ vec_capacity keys.old }
-    ensures grown { IsGrown blocks.old.map.entries keys.old.items blocks.new.map.entries keys.new.items (filter (is_free blocks.old.map.entries) columns.now) }
+    ensures grown { IsGrown blocks.old.map.entries keys.old.items blocks.new.map.entries keys.new.items
+        (filter (is_free blocks.old.map.entries) columns.now) }
     ensures capacity { vec_capacity keys.new ≡ vec_capacity keys.old }
     ensures count { result ≡ length (filter (is_free blocks.old.map.entries) columns.now) }
     ensures few { result ≤ 16 }

@@ -75,7 +75,8 @@ impl Block {
     /// The first place from `from` on, at most 16, at which a column is there.
     #[tactic(auto, using(std::proofs::lemmas::Nat::Bits::shr_and_one))]
     pub(crate) fn first_from(&self, from: u16) -> Option<u16>
-        ensures some { IfSome result (λ j. (from ≤ j) × (j < 16) × (is_some (kept_in self.now j) ≡ true) × ((i : ℕ) → from ≤ i → i < j → kept_in self.now i ≡ None)) }
+        ensures some { IfSome result (λ j. (from ≤ j) × (j < 16) × (is_some (kept_in self.now j) ≡ true)
+            × ((i : ℕ) → from ≤ i → i < j → kept_in self.now i ≡ None)) }
         ensures none { IfNone result ((i : ℕ) → from ≤ i → i < 16 → kept_in self.now i ≡ None) }
     {
         for place in from..16 {

@@ -73,7 +73,8 @@ impl Blocks {
     /// Puts a column under a key whose block was made. Takes no memory.
     pub(crate) fn put(&mut self, key: &Key, buckets: [Bucket; 8])
         requires { IsMade self.old.map.entries (spot key.now) }
-        ensures put { (q : GhostKey) → kept_at self.new.map.entries q ≡ (if same_column_key key.now q then Some buckets else kept_at self.old.map.entries q) }
+        ensures put { (q : GhostKey) → kept_at self.new.map.entries q ≡
+            (if same_column_key key.now q then Some buckets else kept_at self.old.map.entries q) }
         ensures stays { (s : GhostSpot) → IsMade self.old.map.entries s → IsMade self.new.map.entries s }
     {
         let Some(block) = self.map.get_mut(&spot_of(key)) else {

@@ -3,7 +3,8 @@ ghost use Rattle.std.specs.Prelude.{◌≡◌, ◌≤◌, All, is_none, length, 
 ghost use Rattle.lg_model.specs.Answer.{found};
 ghost use Rattle.lg_model.specs.Columns.{dims_of};
 ghost use Rattle.column_book.specs.Entries.{records, content};
-ghost use Rattle.column_book.specs.Applying.{is_new, new_columns, misfit as misfit_of, conflict as conflict_of, first_fault, mask_of, checked};
+ghost use Rattle.column_book.specs.Applying.{is_new, new_columns, first_fault, mask_of, checked};
+ghost use Rattle.column_book.specs.Applying.{misfit as misfit_of, conflict as conflict_of};
 
 use crate::book::{Book, dims};
 use crate::fault::BookFault;

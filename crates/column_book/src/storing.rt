@@ -23,7 +23,8 @@ fn make_room(
     ensures keys { (keys.new.items ≡ keys.old.items) × (vec_capacity keys.old ≤ vec_capacity keys.new) }
     ensures rows { (rows.new.items ≡ rows.old.items) × (vec_capacity rows.old ≤ vec_capacity rows.new) }
     ensures ready { ready.new.items ≡ ready.old.items }
-    ensures room { OnOk result (HasRoom count (length keys.new.items) (vec_capacity keys.new) (length rows.new.items) (vec_capacity rows.new) (length ready.new.items) (vec_capacity ready.new)) }
+    ensures room { OnOk result (HasRoom count (length keys.new.items) (vec_capacity keys.new)
+        (length rows.new.items) (vec_capacity rows.new) (length ready.new.items) (vec_capacity ready.new)) }
 {
     keys.reserve(count)?;
     rows.reserve(1)?;
@@ -56,7 +57,8 @@ impl Book {
     pub fn add(&mut self, pass: u32, upload: &Upload) -> u32
         requires fits { IsAddable self.old.shape self.old.room (records self.old.entries) upload.now }
         requires ready { IsReady self.old.ready (content self.old.entries) upload.now.columns }
-        ensures added { self.new ≡ record self.old { entries = self.old.entries ++ stored_entry pass self.old.entries upload.now ∷ []; ready = [] } }
+        ensures added { self.new ≡ record self.old { ready = [];
+            entries = self.old.entries ++ stored_entry pass self.old.entries upload.now ∷ [] } }
         ensures applied { self.new.entries ≡ after self.old.shape self.old.room self.old.entries pass upload.now }
         ensures at { result ≡ length self.old.entries }
     {

@@ -75,7 +75,8 @@ impl Book {
     pub fn known(&self, switch: u16, epoch: u32) -> u16
         ensures value { result ≡ known_of switch epoch self.now.entries }
         ensures few { result ≤ self.now.shape.width }
-        ensures each { result ≡ self.now.shape.width → (j : ℕ) → j < self.now.shape.width → IsSome (look_in (content self.now.entries) switch epoch j) }
+        ensures each { result ≡ self.now.shape.width → (j : ℕ) → j < self.now.shape.width →
+            IsSome (look_in (content self.now.entries) switch epoch j) }
     {
         let mut count = 0;
         for index in 0..self.shape.width() {
@@ -94,7 +95,8 @@ impl Book {
     /// Whether all columns of a switch and an epoch are kept: as many as the width. Takes no memory.
     pub fn whole(&self, switch: u16, epoch: u32) -> bool
         ensures value { result ≡ (known_of switch epoch self.now.entries == self.now.shape.width) }
-        ensures each { result ≡ true → (j : ℕ) → j < self.now.shape.width → IsSome (look_in (content self.now.entries) switch epoch j) }
+        ensures each { result ≡ true → (j : ℕ) → j < self.now.shape.width →
+            IsSome (look_in (content self.now.entries) switch epoch j) }
     {
         self.known(switch, epoch) == self.shape.width()
     }

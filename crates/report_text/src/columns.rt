@@ -3,7 +3,8 @@ ghost use Rattle.std.specs.Prelude.{◌≡◌, ◌<◌, ◌++◌, codes, IfOk};
 ghost use Rattle.std.specs.List.{flat_map};
 ghost use Rattle.text_out.specs.Appending.{AppendsText};
 ghost use Rattle.text_out.specs.Words.{field};
-ghost use Rattle.report_text.specs.Columns.{bucket_text, row_text, column_line as column_line_of, row_line as row_line_of, acked_line as acked_line_of};
+ghost use Rattle.report_text.specs.Columns.{bucket_text, row_text};
+ghost use Rattle.report_text.specs.Columns.{column_line as column_line_of, row_line as row_line_of, acked_line as acked_line_of};
 
 use lg_base::Memory;
 use lg_model::{Bucket, Key};
