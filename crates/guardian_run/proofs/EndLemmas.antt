@@ -1,5 +1,5 @@
 -- How a call ends follows from what the command gave and what was done with it.
-use Rattle.std.specs.Prelude.{◌≡◌, ℕ, List, Option, Some, None, IfSome, IfOk, IfErr, ◌≤◌, Result, Ok, Err}
+use Rattle.std.specs.Prelude.{◌≡◌, ◌⊎◌, ◌↔◌, ℕ, List, Option, Some, None, IfSome, IfOk, IfErr, ◌≤◌, Result, Ok, Err, IsErr}
 use Rattle.std.proofs.Common.{refl, sym, subst, rules, inl, inr}
 use Rattle.scenario_lines.specs.declared.why.Why.{Why}
 use Rattle.scenario_lines.specs.declared.why.Why.TheVariants.{NoDone}
@@ -10,10 +10,12 @@ use Rattle.guardian_run.specs.declared.refusal.Refusal.{Refusal}
 use Rattle.guardian_run.specs.declared.refusal.Refusal.TheVariants as refusals
 use Rattle.guardian_run.specs.declared.status.Status.{Status}
 use Rattle.guardian_run.specs.declared.status.Status.TheVariants as status
-use Rattle.guardian_run.specs.Changes.{Change, IsUntouched}
-use Rattle.guardian_run.specs.Commands.{HasOutput, IsRefused}
-use Rattle.report_text.specs.Faults.{usage_line, read_fault_line, no_memory_line, scenario_line}
-use Rattle.guardian_run.specs.Ends.{Puts, Ends}
+use Rattle.guardian_run.specs.Changes.{Change, HasFailed, IsUntouched}
+use Rattle.column_book.specs.declared.fault.BookFault.TheVariants as book
+use Rattle.run_laws.specs.Booking.{booked}
+use Rattle.guardian_run.specs.Commands.{LacksRoom, HasOutput, HasNoRoom, IsCause, IsRefused}
+use Rattle.report_text.specs.Faults.{usage_line, read_fault_line, no_memory_line, scenario_line, full_line}
+use Rattle.guardian_run.specs.Ends.{IsOutputEnd, IsRead, IsAnswered, Says, Wrote, Draws, Puts, Ends}
 use Rattle.guardian_run.specs.Ending.{EndsWith, EndsWithLine, EndsRefused}
 
 -- what an input says that is told, and anything else where it is not
@@ -40,10 +42,11 @@ at_ok command source sink text has puts = record {
   answers = record {
     words = search rules;
     bad_text = inr (search rules);
-    good_text = inr ((λ _. (refl, refl)), λ _. inl refl);
+    good_text = inr ((λ _. ((refl, refl), has.fits)), λ _. inl refl);
+    full = inr ((search rules), λ lacks. absurd (has.fits lacks));
     read = search rules;
     write = search rules;
-    complete = λ _ _ _ _. inl refl;
+    complete = λ _ _ _ _ _. inl refl;
   };
   says = record { command = command; scenario = has.scenario; asked_is = refl; said_is = refl; whole = has.whole; output = has.output };
   draws = record { unread = search rules; took = λ _. has.took; never_falls = has.never_falls };
@@ -60,10 +63,11 @@ at_write_fault command source sink text has puts = record {
   answers = record {
     words = search rules;
     bad_text = inr (search rules);
-    good_text = inr ((λ _. (refl, refl)), λ _. inr refl);
+    good_text = inr ((λ _. ((refl, refl), has.fits)), λ _. inr refl);
+    full = inr ((search rules), λ lacks. absurd (has.fits lacks));
     read = search rules;
     write = λ _. puts.written.1;
-    complete = λ _ _ fine well. absurd (well puts.written.1);
+    complete = λ _ _ _ fine well. absurd (well puts.written.1);
   };
   says = record { command = command; scenario = has.scenario; asked_is = refl; said_is = refl; whole = has.whole; output = has.output };
   draws = record { unread = search rules; took = λ _. has.took; never_falls = has.never_falls };
@@ -80,7 +84,7 @@ ends_output command source sink s text has end = elim end.0 as (λ _. Ends (Some
 
 -- ---- a refusal
 
-at_bad_scenario : (command : Command) (source sink : Change) (n : ℕ) (why : Why) → IsRefused source (refusals.BadScenario n why) →
+at_bad_scenario : (command : Command) (source sink : Change) (n : ℕ) (why : Why) → IsRefused command source (refusals.BadScenario n why) →
     Puts status.BadScenario sink (scenario_line (n, why)) → Ends (Some command) source sink status.BadScenario
 at_bad_scenario command source sink n why is puts =
     let cause = both source.old (λ input. reading input ≡ Err (n, why)) (λ input. IsTaken input source.new) is.cause in
@@ -92,6 +96,7 @@ at_bad_scenario command source sink n why is puts =
         words = search rules;
         bad_text = inr ((λ _. (refl, refl)), λ _. refl);
         good_text = inr (search rules);
+        full = inr (search rules);
         read = search rules;
         write = search rules;
         complete = search rules;
@@ -102,7 +107,42 @@ at_bad_scenario command source sink n why is puts =
       truth = search rules;
     }
 
-at_read_fault : (command : Command) (source sink : Change) → IsRefused source refusals.ReadFault → Puts status.ReadFault sink read_fault_line →
+at_full : (command : Command) (source sink : Change) (held more : ℕ) → IsRefused command source (refusals.Full held more) →
+    Puts status.Full sink (full_line held more) → Ends (Some command) source sink status.Full
+at_full command source sink held more is puts = record {
+  said = Ok is.cause.scenario;
+  text = full_line held more;
+  input = is.cause.said;
+  answers = record {
+    words = search rules;
+    bad_text = inr (search rules);
+    good_text = inr ((search rules), λ fit. absurd (fit.1 lacks));
+    full = inr ((λ _. lacks), λ _. refl);
+    read = search rules;
+    write = search rules;
+    complete = λ _ _ room _ _. absurd (room lacks);
+  };
+  says = record {
+    scenario = is.cause.scenario;
+    held = held;
+    more = more;
+    said_is = refl;
+    whole = is.cause.whole;
+    booking = is.cause.booking;
+    line = refl;
+  };
+  draws = record { unread = search rules; took = λ _. is.cause.took; never_falls = is.never_falls };
+  puts = puts;
+  truth = search rules;
+}
+  where
+    refused : IsErr (booked is.cause.scenario)
+    refused = subst IsErr (sym is.cause.booking) refl
+
+    lacks : LacksRoom command is.cause.scenario
+    lacks = subst (λ (c : Command). LacksRoom c is.cause.scenario) (sym is.cause.run) refused
+
+at_read_fault : (command : Command) (source sink : Change) → IsRefused command source refusals.ReadFault → Puts status.ReadFault sink read_fault_line →
     Ends (Some command) source sink status.ReadFault
 at_read_fault command source sink is puts = record {
   said = said_by source.old;
@@ -112,9 +152,10 @@ at_read_fault command source sink is puts = record {
     words = search rules;
     bad_text = inl (inl refl);
     good_text = inl (inl refl);
+    full = inl (inl refl);
     read = λ _. is.cause;
     write = search rules;
-    complete = λ _ _ fine _. absurd (fine is.cause);
+    complete = λ _ _ _ fine _. absurd (fine is.cause);
   };
   says = refl;
   draws = record { unread = search rules; took = search rules; never_falls = is.never_falls };
@@ -122,7 +163,7 @@ at_read_fault command source sink is puts = record {
   truth = search rules;
 }
 
-at_no_memory : (command : Command) (source sink : Change) (refusal : Refusal) → IsRefused source refusal → Puts status.NoMemory sink no_memory_line →
+at_no_memory : (command : Command) (source sink : Change) (refusal : Refusal) → IsRefused command source refusal → Puts status.NoMemory sink no_memory_line →
     Ends (Some command) source sink status.NoMemory
 at_no_memory command source sink refusal is puts = record {
   said = said_by source.old;
@@ -132,9 +173,10 @@ at_no_memory command source sink refusal is puts = record {
     words = search rules;
     bad_text = inl (inr refl);
     good_text = inl (inr refl);
+    full = inl (inr refl);
     read = search rules;
     write = search rules;
-    complete = λ _ _ _ _. inr refl;
+    complete = λ _ _ _ _ _. inr refl;
   };
   says = refl;
   draws = record { unread = search rules; took = search rules; never_falls = is.never_falls };
@@ -147,18 +189,21 @@ at_status : (asked : Option Command) (source sink : Change) (at s : Status) (lin
     EndsWithLine at line sink s → Ends asked source sink s
 at_status asked source sink at s line ends end = subst (λ t. Puts t sink line → Ends asked source sink t) (sym end.0) ends end.1
 
-starved : (command : Command) (source sink : Change) (s : Status) (refusal : Refusal) → IsRefused source refusal →
+starved : (command : Command) (source sink : Change) (s : Status) (refusal : Refusal) → IsRefused command source refusal →
     EndsWithLine status.NoMemory no_memory_line sink s →
     Ends (Some command) source sink s
 starved command source sink s refusal is end =
     at_status (Some command) source sink status.NoMemory s no_memory_line (at_no_memory command source sink refusal is) end
 
-ends_refused : (command : Command) (source sink : Change) (s : Status) (refusal : Refusal) → IsRefused source refusal → EndsRefused refusal sink s →
+ends_refused : (command : Command) (source sink : Change) (s : Status) (refusal : Refusal) → IsRefused command source refusal → EndsRefused refusal sink s →
     Ends (Some command) source sink s
 ends_refused command source sink s refusals.BadWords is end = absurd is.cause
 ends_refused command source sink s (refusals.BadScenario n why) is (inl end) =
     at_status (Some command) source sink status.BadScenario s (scenario_line (n, why)) (at_bad_scenario command source sink n why is) end
 ends_refused command source sink s (refusals.BadScenario n why) is (inr end) = starved command source sink s (refusals.BadScenario n why) is end.1
+ends_refused command source sink s (refusals.Full held more) is (inl end) =
+    at_status (Some command) source sink status.Full s (full_line held more) (at_full command source sink held more is) end
+ends_refused command source sink s (refusals.Full held more) is (inr end) = starved command source sink s (refusals.Full held more) is end.1
 ends_refused command source sink s refusals.ReadFault is (inl end) =
     at_status (Some command) source sink status.ReadFault s read_fault_line (at_read_fault command source sink is) end
 ends_refused command source sink s refusals.ReadFault is (inr end) = absurd end.0
@@ -177,6 +222,7 @@ at_bad_words source sink left same puts = record {
     words = ((λ _. refl), λ _. refl);
     bad_text = inr (search rules);
     good_text = inr (search rules);
+    full = inr (search rules);
     read = search rules;
     write = search rules;
     complete = search rules;
@@ -201,11 +247,11 @@ ends_unread asked source sink s none left same end = subst (λ a. Ends a source 
 pub ends_given : {T : Type 0} →
     (items : T → List ℕ) (asked : Option Command) (command : Command) (source sink : Change) (s : Status) (given : Result T Refusal) →
     asked ≡ Some command →
-    IfOk given (λ text. HasOutput command source (items text)) → IfErr given (IsRefused source) →
+    IfOk given (λ text. HasOutput command source (items text)) → IfErr given (IsRefused command source) →
     IfOk given (λ text. EndsWith (items text) sink s) → IfErr given (λ refusal. EndsRefused refusal sink s) → Ends asked source sink s
 ends_given {T} items asked command source sink s given same has is done end = subst (λ a. Ends a source sink s) (sym same) (either given has is done end)
   where
-    either : (given : Result T Refusal) → IfOk given (λ text. HasOutput command source (items text)) → IfErr given (IsRefused source) →
+    either : (given : Result T Refusal) → IfOk given (λ text. HasOutput command source (items text)) → IfErr given (IsRefused command source) →
         IfOk given (λ text. EndsWith (items text) sink s) → IfErr given (λ refusal. EndsRefused refusal sink s) → Ends (Some command) source sink s
     either (Ok text) has _ done _ = ends_output command source sink s (items text) has done
     either (Err refusal) _ is _ end = ends_refused command source sink s refusal is end

@@ -1,5 +1,5 @@
 -- What came to a host, column by column.
-use Rattle.std.specs.Prelude.{◌≡◌, ℕ, zero, suc, map, ◌+◌, ◌<◌, List, [], ◌∷◌, ◌++◌, length, take, fold, slice_index_or}
+use Rattle.std.specs.Prelude.{◌≡◌, ℕ, zero, suc, map, ◌+◌, ◌<◌, ◌≤◌, All, List, [], ◌∷◌, ◌++◌, length, take, fold, slice_index_or}
 use Rattle.std.specs.List.{flat_map, range_with_len, enumerate_from}
 use Rattle.std.proofs.Common.{refl, sym, ap, ◌∙◌, arith, take_all, append-nil, append_assoc, zero-add}
 use Rattle.std.proofs.lemmas.List.{take_more, length-take}
@@ -7,6 +7,7 @@ use Rattle.std.proofs.lemmas.List.FromFn.{map-range_with_len_more}
 use Rattle.std.proofs.lemmas.List.Sums.{fold_more, fold-append}
 use Rattle.std.proofs.lemmas.Grind.{flat_map-append}
 use Rattle.lg_model.specs.declared.scenario.HostLine.{HostLine}
+use Rattle.lg_model.specs.declared.limits.TheConstants.{MOST_SKETCHLET_BYTES}
 use Rattle.lg_model.specs.Scenario.{Scenario}
 use Rattle.lg_model.specs.Matching.{Matched}
 use Rattle.lg_model.specs.Carrying.{picked}
@@ -32,17 +33,9 @@ pub packed_is : (ps : List Packed) (cs : List Column) (i : ℕ) → Matched IsPa
     IsPacked (slice_index_or ps i no_packed) (slice_index_or cs i no_column)
 packed_is ps cs i all inside = matched_at IsPacked ps cs i no_packed no_column all inside
 
--- one column more is kept
-pub kept_more : (ps : List Packed) (cs : List Column) (i : ℕ) (start old new : Content) (c : Column) → Matched IsPacked ps cs → i < length ps →
-    c ≡ slice_index_or cs i no_column → old ≡ fold with_column start (take i cs) → new ≡ with_column old c → new ≡ fold with_column start (take (i + 1) cs)
-kept_more ps cs i start old new c all inside is before kept =
-    let low : i < length cs = omega (arith, inside, matched_length IsPacked ps cs all) in
-    kept ∙ (λ j. with_column (before j) (is j)) ∙ sym (fold_more with_column start cs i no_column low)
-
-pub kept_all : (ps : List Packed) (cs : List Column) (i : ℕ) (start now : Content) → Matched IsPacked ps cs → i ≡ length ps →
-    now ≡ fold with_column start (take i cs) → now ≡ fold with_column start cs
-kept_all ps cs i start now all end is =
-    is ∙ ap (fold with_column start) (take_all i cs (omega (arith, end, matched_length IsPacked ps cs all)))
+-- each is short enough to be read
+pub packed_short : (ps : List Packed) (cs : List Column) → Matched IsPacked ps cs → All (λ (p : Packed). p.len ≤ MOST_SKETCHLET_BYTES) ps
+packed_short ps cs all = λ i d inside. (matched_at IsPacked ps cs i d no_column all inside).short
 
 -- one host more
 range_more : (n : ℕ) → range_with_len 0 (n + 1) ≡ range_with_len 0 n ++ n ∷ []
@@ -57,13 +50,6 @@ pub brought_more : (w : Scenario) (n : ℕ) →
 brought_more w n =
     ap (flat_map (brought w (picked w))) (range_more n) ∙ flat_map-append (brought w (picked w)) (range_with_len 0 n) (n ∷ [])
     ∙ ap (λ xs. flat_map (brought w (picked w)) (range_with_len 0 n) ++ xs) (append-nil (brought w (picked w) n))
-
-pub content_more : (w : Scenario) (n : ℕ) (old new : Content) → old ≡ content_of (flat_map (brought w (picked w)) (range_with_len 0 n)) →
-    new ≡ fold with_column old (brought w (picked w) n) →
-    new ≡ content_of (flat_map (brought w (picked w)) (range_with_len 0 (n + 1)))
-content_more w n old new before is =
-    is ∙ ap (λ (m : Content). fold with_column m (brought w (picked w) n)) before
-    ∙ sym (ap content_of (brought_more w n) ∙ fold-append with_column [] (flat_map (brought w (picked w)) (range_with_len 0 n)) (brought w (picked w) n))
 
 -- one line more
 pub hex_more : (ps : List Packed) (cs : List Column) (i name : ℕ) (start old new bytes : List ℕ) → Matched IsPacked ps cs → i < length ps →
@@ -82,19 +68,21 @@ pub hex_all : (ps : List Packed) (cs : List Column) (i name : ℕ) (start now : 
 hex_all ps cs i name start now all end is =
     is ∙ ap (λ (xs : List Column). start ++ column_lines name xs) (take_all i cs (omega (arith, end, matched_length IsPacked ps cs all)))
 
+-- what f makes of one host more
+pub host_more : {X : Type 0} (f : ℕ × HostLine → List X) (hs : List HostLine) (n : ℕ) (d : HostLine) → n < length hs →
+    flat_map f (enumerate_from 0 (take (n + 1) hs)) ≡ flat_map f (enumerate_from 0 (take n hs)) ++ f (n, slice_index_or hs n d)
+host_more f hs n d h =
+    let x = slice_index_or hs n d in
+    let front : length (take n hs) ≡ n = omega (arith, length-take n hs) in
+    ap (λ xs. flat_map f (enumerate_from 0 xs)) (take_more hs n d h)
+    ∙ ap (flat_map f) (enumerate_from-append 0 (take n hs) (x ∷ []) ∙ ap (λ (k : ℕ). enumerate_from 0 (take n hs) ++ (k, x) ∷ []) (zero-add (length (take n hs)) ∙ front))
+    ∙ flat_map-append f (enumerate_from 0 (take n hs)) ((n, x) ∷ [])
+    ∙ ap (λ xs. flat_map f (enumerate_from 0 (take n hs)) ++ xs) (append-nil (f (n, x)))
+
 -- the lines of one host more
-pub lines_more : (w : Scenario) (n : ℕ) (d : HostLine) (old new : List ℕ) → n < length w.hosts →
-    old ≡ flat_map (host_lines w) (enumerate_from 0 (take n w.hosts)) →
+pub lines_more : (w : Scenario) (n : ℕ) (d : HostLine) (old new : List ℕ) → n < length w.hosts → old ≡ flat_map (host_lines w) (enumerate_from 0 (take n w.hosts)) →
     new ≡ old ++ host_lines w (n, slice_index_or w.hosts n d) → new ≡ flat_map (host_lines w) (enumerate_from 0 (take (n + 1) w.hosts))
-lines_more w n d old new h before put =
-    let x = slice_index_or w.hosts n d in
-    let front : length (take n w.hosts) ≡ n = omega (arith, length-take n w.hosts) in
-    put ∙ ap (λ xs. xs ++ host_lines w (n, x)) before
-    ∙ sym (ap (λ xs. flat_map (host_lines w) (enumerate_from 0 xs)) (take_more w.hosts n d h)
-    ∙ ap (flat_map (host_lines w)) (enumerate_from-append 0 (take n w.hosts) (x ∷ [])
-    ∙ ap (λ (k : ℕ). enumerate_from 0 (take n w.hosts) ++ (k, x) ∷ []) (zero-add (length (take n w.hosts)) ∙ front))
-    ∙ flat_map-append (host_lines w) (enumerate_from 0 (take n w.hosts)) ((n, x) ∷ [])
-    ∙ ap (λ xs. flat_map (host_lines w) (enumerate_from 0 (take n w.hosts)) ++ xs) (append-nil (host_lines w (n, x))))
+lines_more w n d old new h before put = put ∙ ap (λ xs. xs ++ host_lines w (n, slice_index_or w.hosts n d)) before ∙ sym (host_more (host_lines w) w.hosts n d h)
 
 -- the host that the code reads
 pub host_known : (w : Scenario) (n : ℕ) (hs : List HostLine) (x : HostLine) → hs ≡ w.hosts → x ≡ slice_index_or hs n x →

@@ -22,6 +22,7 @@ abbrev pub TakesMemory : Refusal → Type 0
 TakesMemory refusals.BadWords = ⊥
 TakesMemory (refusals.BadScenario n why) = Unit {0}
 TakesMemory refusals.ReadFault = ⊥
+TakesMemory (refusals.Full held more) = Unit {0}
 TakesMemory refusals.Memory = ⊥
 
 -- A refusal ends at its status with its line, or where there is no memory for that line at `NoMemory`.

@@ -61,7 +61,7 @@ fn capture_lines(alloc: Global, scenario: &Scenario, arrivals: &Arrivals) -> Res
 /// call or stands at its last value, `Memory` where no memory was found.
 pub fn capture<S: Source>(alloc: Global, source: &mut S) -> Result<Vec<u8>, Refusal>
     ensures output { IfOk result (λ text. HasOutput Command.Capture (change S.left S.faults source.old source.new) text.items) }
-    ensures refused { IfErr result (IsRefused (change S.left S.faults source.old source.new)) }
+    ensures refused { IfErr result (IsRefused Command.Capture (change S.left S.faults source.old source.new)) }
 {
     let scenario = read(alloc, source)?;
     let arrivals = run_own(alloc, &scenario)?;

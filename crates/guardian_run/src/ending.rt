@@ -6,7 +6,7 @@ ghost use Rattle.guardian_run.specs.Ending.{EndsWith, EndsRefused};
 use crate::refusal::Refusal;
 use crate::status::Status;
 use lg_base::{Sink, put_all};
-use report_text::{no_memory_line, read_fault_line, scenario_line, usage_line};
+use report_text::{full_line, no_memory_line, read_fault_line, scenario_line, usage_line};
 use std::alloc::Global;
 
 // Writes an output: `Ok`, or `WriteFault` where the sink fails.
@@ -40,13 +40,21 @@ fn put_refusal<K: Sink>(alloc: Global, refusal: Refusal, sink: &mut K) -> Status
             Err(_) => put_fault(sink, no_memory_line(), Status::NoMemory),
         },
         Refusal::ReadFault => put_fault(sink, read_fault_line(), Status::ReadFault),
+        Refusal::Full { held, more } => match full_line(alloc, held, more) {
+            Ok(text) => put_fault(sink, &text, Status::Full),
+            Err(_) => put_fault(sink, no_memory_line(), Status::NoMemory),
+        },
         Refusal::Memory => put_fault(sink, no_memory_line(), Status::NoMemory),
     }
 }
 
 /// Writes what a command gave, and answers the status: all of its output, or the line of why it has none. Memory is
-/// taken for the line of a scenario text that is refused alone; where there is none, the end is that of want of memory.
-pub fn end<K: Sink>(alloc: Global, given: Result<Vec<u8>, Refusal>, sink: &mut K) -> Status
+/// taken for the line of a scenario text that is refused or of a book that has no room alone; where there is none, the end is that of want of memory.
+pub fn end<K: Sink>(
+    alloc: Global,
+    given: Result<Vec<u8>, Refusal>,
+    sink: &mut K,
+) -> Status
     ensures output { IfOk given (λ text. EndsWith text.items (change K.written K.faults sink.old sink.new) result) }
     ensures refused { IfErr given (λ refusal. EndsRefused refusal (change K.written K.faults sink.old sink.new) result) }
 {

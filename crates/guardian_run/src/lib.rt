@@ -10,6 +10,7 @@
 //! end of the call turns either into bytes and a status.
 #![tactic(auto)]
 
+mod booking;
 mod capture;
 mod ending;
 mod refusal;

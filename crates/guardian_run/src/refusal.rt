@@ -20,6 +20,13 @@ pub enum Refusal {
     },
     /// The source failed.
     ReadFault,
+    /// The book of the run has no room.
+    Full {
+        /// The columns that it has.
+        held: u32,
+        /// The new ones of the upload for which it has no room.
+        more: u32,
+    },
     /// No memory was found.
     Memory,
 }

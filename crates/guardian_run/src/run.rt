@@ -1,78 +1,27 @@
 //! The command `run`: the book of a run, and the report on it.
-ghost use Rattle.std.specs.Prelude.{◌≡◌, ◌<◌, List, length, fold, IfOk, IfErr};
-ghost use Rattle.lg_model.specs.Scenario.{IsScenario};
-ghost use Rattle.lg_model.specs.Matching.{Matched};
-ghost use Rattle.lg_model.specs.Carrying.{picked};
-ghost use Rattle.lg_model.specs.Arriving.{brought};
-ghost use Rattle.lg_model.specs.Columns as columns;
-ghost use Rattle.lg_model.specs.Answer.{with_column};
+ghost use Rattle.std.specs.Prelude.{◌≡◌, IfOk, IfErr};
 ghost use Rattle.report_text.specs.Report.{report as report_of};
-ghost use Rattle.sketchlet_wire.specs.Packing.{IsPacked};
-ghost use Rattle.path_sim.specs.Arrived.{HaveArrived};
-ghost use Rattle.run_laws.specs.Truth.{book_of};
+ghost use Rattle.column_book.specs.Entries.{content};
 ghost use Rattle.guardian_run.specs.Changes.{change};
 ghost use Rattle.guardian_run.specs.Commands.{HasOutput, IsRefused};
 
+use crate::booking::book_run;
 use crate::refusal::Refusal;
 use column_book::Book;
 use flow_query::answer;
 use guardian_words::Command;
 use lg_base::{Memory, Source};
-use path_sim::{Arrivals, run_own};
+use path_sim::run_own;
 use report_text::{put_answer_line, put_columns_line};
 use run_laws::runs_are_true;
 use scenario_text::{Scenario, read};
-use sketchlet_wire::{Column, Packed};
 use std::alloc::Global;
-
-// The column that was packed.
-fn unpacked(packed: &Packed) -> Column
-    requires { (c : columns.Column) × IsPacked packed.now c }
-    ensures { (c : columns.Column) → IsPacked packed.now c → result ≡ c }
-{
-    match packed.column() {
-        Ok((column, _)) => column,
-        Err(_) => unreachable!(),
-    }
-}
-
-// Keeps the columns that came to the host at a position. Memory where there is none for one of them.
-fn keep_arrived(
-    scenario: &Scenario,
-    host_at: u16,
-    arrived: &[Packed],
-    book: &mut Book,
-) -> Result<(), Memory>
-    requires shape { book.old.shape ≡ scenario.now.shape }
-    requires arrived { Matched IsPacked arrived.now (brought scenario.now (picked scenario.now) host_at) }
-    ensures shape { IfOk result (λ _. book.new.shape ≡ book.old.shape) }
-    ensures content { IfOk result (λ _. book.new.content
-        ≡ fold with_column book.old.content (brought scenario.now (picked scenario.now) host_at)) }
-{
-    for packed in arrived {
-        let column = unpacked(packed);
-        book.keep(&column)?;
-    }
-    Ok(())
-}
-
-// The book of all columns that came to the hosts. Memory where there is none for one of them.
-fn book_arrivals(alloc: Global, scenario: &Scenario, arrivals: &Arrivals) -> Result<Book, Memory>
-    requires { HaveArrived scenario.now (picked scenario.now) arrivals.now.inboxes }
-    ensures { IfOk result (λ b. b ≡ record { shape = scenario.now.shape; content = book_of scenario.now }) }
-{
-    let mut book = Book::new(alloc, &scenario.shape());
-    for host_at in 0..scenario.hosts().len() as u16 {
-        keep_arrived(scenario, host_at, arrivals.arrived(host_at), &mut book)?;
-    }
-    Ok(book)
-}
 
 // The report on a book: the answer to each ask of the scenario, and how many columns the book has. Memory where there is
 // none for its lines.
 fn report(alloc: Global, scenario: &Scenario, book: &Book) -> Result<Vec<u8>, Memory>
     requires { book.now.shape ≡ scenario.now.shape }
-    ensures { IfOk result (λ text. text.items ≡ report_of book.now.content scenario.now) }
+    ensures { IfOk result (λ text. text.items ≡ report_of (content book.now.entries) scenario.now) }
 {
     let mut text = Vec::new(alloc);
     let flows = scenario.flows();
@@ -82,21 +31,22 @@ fn report(alloc: Global, scenario: &Scenario, book: &Book) -> Result<Vec<u8>, Me
         let told = answer(book, ask.switch, ask.epoch, &flow.key);
         put_answer_line(&mut text, flow.name, ask.switch, ask.epoch, rows, &told)?;
     }
-    put_columns_line(&mut text, book.count())?;
+    put_columns_line(&mut text, book.count() as usize)?;
     Ok(text)
 }
 
 /// Reads a scenario from the source, runs its network and gives the report on what came to the hosts.
 ///
 /// `BadScenario` where the input is no scenario text, `ReadFault` only where the source's count of faults rose in this
-/// call or stands at its last value, `Memory` where no memory was found.
+/// call or stands at its last value, `Full` exactly where a book has no room for the columns that came to the hosts,
+/// `Memory` where no memory was found.
 pub fn run<S: Source>(alloc: Global, source: &mut S) -> Result<Vec<u8>, Refusal>
     ensures output { IfOk result (λ text. HasOutput Command.Run (change S.left S.faults source.old source.new) text.items) }
-    ensures refused { IfErr result (IsRefused (change S.left S.faults source.old source.new)) }
+    ensures refused { IfErr result (IsRefused Command.Run (change S.left S.faults source.old source.new)) }
 {
     let scenario = read(alloc, source)?;
     let arrivals = run_own(alloc, &scenario)?;
-    let book = book_arrivals(alloc, &scenario, &arrivals)?;
+    let book = book_run(alloc, &scenario, &arrivals)?;
     let text = report(alloc, &scenario, &book)?;
     runs_are_true();
     Ok(text)

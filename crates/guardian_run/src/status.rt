@@ -15,6 +15,8 @@ pub enum Status {
     ReadFault,
     /// All was well, but the sink failed.
     WriteFault,
+    /// The book of the run has no room for the columns that came to the hosts.
+    Full,
     /// No memory was found.
     NoMemory,
 }
@@ -30,6 +32,7 @@ impl Status {
             Status::BadScenario => 2,
             Status::ReadFault => 3,
             Status::WriteFault => 4,
+            Status::Full => 10,
             Status::NoMemory => 11,
         }
     }

@@ -43,8 +43,9 @@ pub fn guardian_read<S: Source, K: Sink>(
 ///
 /// `BadWords` exactly where the words are no command; nothing is read then. `BadScenario` exactly where they are, the
 /// status is not `ReadFault` and not want of memory, and the input is no scenario text. `ReadFault` and `WriteFault` only
-/// where the source's or the sink's count of faults rose in this call or stands at its last value. `NoMemory` where no
-/// memory was found.
+/// where the source's or the sink's count of faults rose in this call or stands at its last value. `Full` exactly where
+/// `run` is asked for, the status is not `ReadFault` and not want of memory, the input is a scenario text, and a book has
+/// no room for the columns that came to the hosts: their keys are more than 262,144. `NoMemory` where no memory was found.
 pub fn guardian<S: Source, K: Sink>(
     alloc: Global,
     words: &[String],
