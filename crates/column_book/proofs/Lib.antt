@@ -1,1 +1,16 @@
-pub mod Entries
+pub mod Keys
+pub mod Places
+pub mod Shelves
+pub mod Contents
+pub mod Cuts
+pub mod Finding
+pub mod Faults
+pub mod Grown
+pub mod Stored
+pub mod Positions
+pub mod Counting
+pub mod Applying
+pub mod Walks
+pub mod Sizes
+pub mod Joins
+pub mod Outcomes

@@ -3,6 +3,7 @@ ghost use Rattle.std.specs.Prelude.{◌≡◌, ◌<◌};
 ghost use Rattle.std.specs.Option.{option_map};
 ghost use Rattle.lg_model.specs.Answer.{look_in, answer as answer_by};
 ghost use Rattle.lg_model.specs.Sketch.{bucket_in};
+ghost use Rattle.column_book.specs.Entries.{content};
 
 use crate::least::Known;
 use column_book::Book;
@@ -13,7 +14,7 @@ use row_hash::places;
 // The bucket of a row in the column under that key, if it is kept.
 fn bucket_of(book: &Book, key: &Key, row: u8) -> Option<Bucket>
     requires { row < book.now.shape.rows }
-    ensures { result ≡ option_map (λ cells. bucket_in cells.buckets row) (look_in book.now.content key.now.switch key.now.epoch key.now.index) }
+    ensures { result ≡ option_map (λ cells. bucket_in cells.buckets row) (look_in (content book.now.entries) key.now.switch key.now.epoch key.now.index) }
 {
     let column = book.find(key)?;
     Some(column.bucket(row))
@@ -22,7 +23,7 @@ fn bucket_of(book: &Book, key: &Key, row: u8) -> Option<Bucket>
 /// What the book tells of a flow at the switch of that name in that epoch: the known rows are those whose column is in
 /// the book, and each value is told of the least counter over the known rows. Takes no memory.
 pub fn answer(book: &Book, switch: u16, epoch: u32, key: &FlowKey) -> Answer
-    ensures { result ≡ answer_by (look_in book.now.content) book.now.shape switch epoch key.now }
+    ensures { result ≡ answer_by (look_in (content book.now.entries)) book.now.shape switch epoch key.now }
 {
     let shape = book.shape();
     let places = places(&shape, key);

@@ -1,19 +1,16 @@
-ghost use Rattle.std.specs.Prelude.{◌≡◌, IfSome};
-
-use crate::{Answer, Value, answer, answers_are_exact};
-use column_book::Book;
+use crate::{Answer, RebuildFault, Value, answer, answers_are_exact, rebuild};
+use column_book::{Book, ROOM};
 use flow_key::FlowKey;
 use lg_model::{Bucket, Dims, Hash, Key};
 use row_hash::Shape;
-use sketchlet_wire::Column;
+use sketchlet_wire::{Column, Upload};
+use std::alloc::Global;
 use std::test::Fail;
 
 const ZERO: Bucket = Bucket { bytes: 0, delay: 0 };
 
 // Column 0 or 1 of switch 1 and epoch 0, with these buckets in rows 0 and 1.
-fn column(index: u16, first: Bucket, second: Bucket) -> Option<Column>
-    ensures { IfSome result (λ c. c.dims ≡ record { rows = 2; width = 2 }) }
-{
+fn column(index: u16, first: Bucket, second: Bucket) -> Option<Column> {
     let key = Key {
         switch: 1,
         epoch: 0,
@@ -21,6 +18,25 @@ fn column(index: u16, first: Bucket, second: Bucket) -> Option<Column>
     };
     let buckets = [first, second, ZERO, ZERO, ZERO, ZERO, ZERO, ZERO];
     Column::new(key, Dims { rows: 2, width: 2 }, buckets)
+}
+
+// Stores an upload of one column.
+fn keep(book: &mut Book, alloc: Global, column: Option<Column>) -> Result<(), Fail> {
+    let mut columns = Vec::new(alloc);
+    columns.push(column.ok_or("no column")?)?;
+    let Ok(upload) = Upload::new(1, 0, columns) else {
+        return Err("no upload".into());
+    };
+    match book.check(&upload) {
+        Ok(mask) => {
+            if mask > 0 {
+                book.reserve(&upload)?;
+                book.add(0, &upload);
+            }
+            Ok(())
+        }
+        Err(_) => Err("refused".into()),
+    }
 }
 
 // A flow of these ports. By its ports its places are `sport % 2` in row 0 and `(sport + dport) % 2` in row 1.
@@ -51,7 +67,7 @@ fn says(rows_known: u8, bytes: u32, delay: u32) -> Answer {
 #[test]
 fn two_rows_one_and_none(rt: HostRuntime) -> Result<(), Fail> {
     let shape = Shape::new(2, 2, Hash::Ports).ok_or("no shape")?;
-    let mut book = Book::new(rt.alloc(), &shape);
+    let mut book = Book::new(rt.alloc(), &shape, ROOM)?;
     let first = Bucket {
         bytes: 150,
         delay: 30,
@@ -63,7 +79,7 @@ fn two_rows_one_and_none(rt: HostRuntime) -> Result<(), Fail> {
     assert_eq!(rt; answer(&book, 1, 0, &flow(2, 2)), UNKNOWN);
 
     // Column 0 alone: the flows stand at the places (0,1), (0,0) and (1,1).
-    book.keep(&column(0, first, second).ok_or("no column")?)?;
+    keep(&mut book, rt.alloc(), column(0, first, second))?;
     for (sport, dport, want) in [
         (2, 1, says(1, 150, 30)),
         (2, 2, says(2, 50, 30)),
@@ -83,7 +99,7 @@ fn two_rows_one_and_none(rt: HostRuntime) -> Result<(), Fail> {
         bytes: 100,
         delay: 10,
     };
-    book.keep(&column(1, ZERO, third).ok_or("no column")?)?;
+    keep(&mut book, rt.alloc(), column(1, ZERO, third))?;
     for (sport, dport, want) in [
         (2, 1, says(2, 100, 10)),
         (2, 2, says(2, 50, 30)),
@@ -119,12 +135,16 @@ fn saturated_at_the_last_value(rt: HostRuntime) -> Result<(), Fail> {
         (65535, 65535, Value::AtMost(65535), Value::Saturated),
     ] {
         let shape = Shape::new(2, 2, Hash::Ports).ok_or("no shape")?;
-        let mut book = Book::new(rt.alloc(), &shape);
+        let mut book = Book::new(rt.alloc(), &shape, ROOM)?;
         let last = Bucket {
             bytes: 4294967295,
             delay: 65535,
         };
-        book.keep(&column(0, last, Bucket { bytes, delay }).ok_or("no column")?)?;
+        keep(
+            &mut book,
+            rt.alloc(),
+            column(0, last, Bucket { bytes, delay }),
+        )?;
         let want = Answer {
             rows_known: 2,
             bytes: want_bytes,
@@ -137,6 +157,36 @@ fn saturated_at_the_last_value(rt: HostRuntime) -> Result<(), Fail> {
             delay: Value::Saturated,
         };
         assert_eq!(rt; answer(&book, 1, 0, &flow(2, 1)), want, "one row");
+    }
+    Ok(())
+}
+
+#[test]
+fn rebuilt_where_all_columns_are_there(rt: HostRuntime) -> Result<(), Fail> {
+    let shape = Shape::new(2, 2, Hash::Ports).ok_or("no shape")?;
+    let mut book = Book::new(rt.alloc(), &shape, ROOM)?;
+    let bucket = |bytes, delay| Bucket { bytes, delay };
+    let table = [
+        [bucket(150, 30), bucket(50, 30)],
+        [bucket(5, 1), bucket(100, 10)],
+    ];
+    for (index, known) in [(0, 1), (1, 2)] {
+        let [first, second] = table[index];
+        keep(&mut book, rt.alloc(), column(index as u16, first, second))?;
+        for (switch, epoch, known) in [(1, 0, known), (1, 1, 0), (2, 0, 0)] {
+            match rebuild(rt.alloc(), &book, switch, epoch) {
+                Ok(_) => assert_eq!(rt; known, 2),
+                Err(fault) => assert_eq!(rt; fault, RebuildFault::Missing { known }),
+            }
+        }
+    }
+    let Ok(sketch) = rebuild(rt.alloc(), &book, 1, 0) else {
+        return Err("not rebuilt".into());
+    };
+    assert_eq!(rt; sketch.shape(), shape);
+    for index in 0..sketch.shape().width() {
+        let column = sketch.column(index);
+        assert_eq!(rt; [column[0], column[1]], table[(index % 2) as usize], "column {index}");
     }
     Ok(())
 }

@@ -1,4 +1,5 @@
 pub mod Keys
+pub mod Maps
 pub mod Raising
 pub mod Bounding
 pub mod LowCounters

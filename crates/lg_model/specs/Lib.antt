@@ -13,5 +13,7 @@ pub mod TwinsState
 pub mod Offering
 pub mod Runs
 pub mod Answer
+pub mod Joining
+pub mod Report
 pub mod Settled
 pub mod Worked

@@ -7,6 +7,7 @@ use Rattle.lg_model.specs.Placing.{Shape, place, places_of}
 use Rattle.lg_model.specs.Columns.{Cells}
 use Rattle.lg_model.specs.Sketch.{bucket_in}
 use Rattle.lg_model.specs.Answer.{look_in}
+use Rattle.column_book.specs.Entries.{content}
 use Rattle.flow_query.specs.declared.least.Known.{Known}
 use Rattle.flow_query.specs.Least.{known_of, known_to}
 use Rattle.flow_query.proofs.Folding.{known_to-more, place_in_row}
@@ -15,7 +16,7 @@ use Rattle.flow_query.proofs.answering.answer.Goals.{in-Some, in_default}
 
 pub loop-row-preserved : goal.loop-row-preserved
 loop-row-preserved c =
-    let look = look_in c.args.book.now.content in
+    let look = look_in (content c.args.book.now.entries) in
     let shape = c.args.book.now.shape in
     let f = c.args.key.now in
     let row = c.loop-row.row in

@@ -1,16 +1,38 @@
-use Rattle.std.proofs.Common.{ap, ◌∙◌}
-use Rattle.std.specs.BTreeMap.{is_at}
-use Rattle.lg_model.specs.Answer.{key_cmp, found}
-use Rattle.lg_model.specs.Columns.{dims_of}
-use Rattle.column_book.specs.Kept.{BookState}
-use Rattle.column_book.proofs.Entries.{found-content_in, entry_of_lookup}
+use Rattle.std.specs.Prelude.{◌≡◌, Some, ◌<◌}
+use Rattle.std.specs.Option.{option_map}
+use Rattle.std.proofs.Common.{sym, ap, ◌∙◌, subst}
+use Rattle.lg_model.specs.declared.column.Dims.{Dims}
+use Rattle.lg_model.specs.Answer.{found}
+use Rattle.sketchlet_wire.specs.Spelling.{IsAdmitted, shown, cells_in}
+use Rattle.lg_model.specs.Columns.{Cells, dims_of}
+use Rattle.column_book.specs.Entries.{BookState, content}
+use Rattle.column_book.proofs.Finding.{found_in_book, index_inside, admitted, surely_some, told_cells}
 use Rattle.column_book.proofs.book.Book.find.Goals as goal
 
-pub returns-clause-cells : goal.returns-clause-cells
-returns-clause-cells c =
-    rw (c.copied.ensures, c.get.ensures.value) (found-content_in (is_at (key_cmp c.args.key.now)) c.self.inside.columns.entries
-    ∙ ap (λ (b : BookState). found b.content c.args.key.now) c.self.view_is)
+pub returns-in_err-buckets : goal.returns-in_err-buckets
+returns-in_err-buckets c =
+    let b = c.self.inside in
+    let k = c.args.key.now in
+    let view = ap (λ (s : BookState). found (content s.entries) k) c.self.view_is in
+    let is = sym view ∙ found_in_book (dims_of b.shape) b.blocks.map.entries b.keys.items b.rows.items c.self.invariant k in
+    let value : c.from_residual.result ≡ option_map (λ (bs : Cells). record { key = k; dims = dims_of c.args.self.now.shape; cells = bs }) (found (content c.args.self.now.entries) k) =
+    rw (is, ← c.get.ensures, c.in_err-buckets.was) c.from_residual.ensures in
+    let told = told_cells k (dims_of c.args.self.now.shape) (found (content c.args.self.now.entries) k) c.from_residual.result value in
+    record { value = told.value; cells = told.cells; named = told.named }
 
-pub returns-clause-named : goal.returns-clause-named
-returns-clause-named c =
-    rw (c.copied.ensures, c.get.ensures.value, ← c.self.view_is) (entry_of_lookup (dims_of c.self.inside.shape) c.args.key.now c.self.inside.columns.entries c.self.invariant)
+pub returns : goal.returns
+returns c =
+    let b = c.self.inside in
+    let k = c.args.key.now in
+    let kept = sym c.get.ensures ∙ c.in_ok-buckets.was in
+    let view = ap (λ (s : BookState). found (content s.entries) k) c.self.view_is in
+    let is = sym view ∙ found_in_book (dims_of b.shape) b.blocks.map.entries b.keys.items b.rows.items c.self.invariant k in
+    let size : c.dims.result ≡ dims_of b.shape = c.dims.ensures.value in
+    let admitted_here : IsAdmitted k c.dims.result = admitted k c.dims.result c.dims.ensures.range
+    (subst (λ (d : Dims). k.index < d.width) (sym size) (index_inside b.blocks.map.entries b.keys.items b.rows.items c.self.invariant k c.in_ok-buckets.buckets kept)) in
+    let made = surely_some c.new.result (IsAdmitted k c.dims.result) (shown k c.dims.result c.in_ok-buckets.buckets) c.new.ensures admitted_here in
+    let value : c.new.result ≡ option_map (λ (bs : Cells). record { key = k; dims = dims_of c.args.self.now.shape; cells = bs }) (found (content c.args.self.now.entries) k) =
+    rw (is, kept) (made ∙ ap (λ (d : Dims). Some (shown k d c.in_ok-buckets.buckets)) size
+    ∙ ap (λ (s : BookState). Some (record { key = k; dims = dims_of s.shape; cells = cells_in b.shape.rows c.in_ok-buckets.buckets })) c.self.view_is) in
+    let told = told_cells k (dims_of c.args.self.now.shape) (found (content c.args.self.now.entries) k) c.new.result value in
+    record { value = told.value; cells = told.cells; named = told.named }
