@@ -14,6 +14,5 @@ pub mod Offering
 pub mod Runs
 pub mod Answer
 pub mod Joining
-pub mod Report
 pub mod Settled
 pub mod Worked
