@@ -1,5 +1,5 @@
 -- A reader holds no more bytes after a call of `next`.
-use Rattle.std.proofs.Common.{◌≡◌, ℕ, ◌+◌, ◌≤◌, List, [], length, drop, Option, Some, None, Result, Ok, Err, refl, ap, subst, arith}
+use Rattle.std.proofs.Common.{◌≡◌, ℕ, ◌+◌, ◌≤◌, List, length, Option, Some, None, Result, Ok, Err, refl, ap, subst, arith}
 use Rattle.std.proofs.lemmas.List.{length-drop}
 use Rattle.upload_frame.specs.declared.fault.FrameFault.{FrameFault}
 use Rattle.upload_frame.specs.declared.fault.NextFault.{NextFault}

@@ -65,7 +65,10 @@ fn ask_all(book: &Book, sum: u64) -> u64 {
     for n in 0..COLUMNS {
         if let Some(column) = book.find(&key(scattered(scattered(n)))) {
             let [first, _, _, _, _, _, _, last] = column.filled();
-            sum = mixed(sum, u64::from(first.bytes).wrapping_add(u64::from(last.delay)));
+            sum = mixed(
+                sum,
+                u64::from(first.bytes).wrapping_add(u64::from(last.delay)),
+            );
         }
     }
     sum

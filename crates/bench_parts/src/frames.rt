@@ -41,7 +41,10 @@ fn tallied(sum: u64, upload: &Upload) -> u64 {
     for column in upload.columns() {
         let [first, _, _, _, _, _, _, last] = column.filled();
         sum = mixed(sum, u64::from(column.key().index));
-        sum = mixed(sum, u64::from(first.bytes).wrapping_add(u64::from(last.delay)));
+        sum = mixed(
+            sum,
+            u64::from(first.bytes).wrapping_add(u64::from(last.delay)),
+        );
     }
     sum
 }
