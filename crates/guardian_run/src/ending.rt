@@ -49,7 +49,8 @@ fn put_refusal<K: Sink>(alloc: Global, refusal: Refusal, sink: &mut K) -> Status
 }
 
 /// Writes what a command gave, and answers the status: all of its output, or the line of why it has none. Memory is
-/// taken for the line of a scenario text that is refused or of a book that has no room alone; where there is none, the end is that of want of memory.
+/// taken for two lines alone, that of a scenario text that is refused and that of a book that has no room; where there
+/// is none, the end is that of want of memory.
 pub fn end<K: Sink>(
     alloc: Global,
     given: Result<Vec<u8>, Refusal>,

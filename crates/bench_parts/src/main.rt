@@ -1,0 +1,100 @@
+//! A program for measurements alone: parts of the product's work, over and over (docs/PERFORMANCE.md, The parts).
+//!
+//! | Words | What is done |
+//! |---|---|
+//! | `frames N` | N sketchlets are cut into uploads, which are written as frames and read back |
+//! | `book ORDER N TIMES` | a book takes N columns in uploads of 16, so many times |
+//! | `find ORDER N TIMES` | a book of N columns is asked for all 262,144 keys in a mixed order, so many times |
+//! | `walk ORDER N TIMES` | a book of N columns is walked from key to key, so many times |
+//! | `read FILE TIMES` | a file is read in pieces of 4,096 bytes, so many times |
+//! | `append FILE N` | N records of 31 bytes are appended to a file, each with two writes and two syncs |
+//!
+//! The order is `near`, uploads of neighbouring columns, or `scattered`. It writes one number, which tells that the work
+//! was done, and ends with 1 where it was not. No crate of the product stands on this one.
+#![tactic(auto)]
+
+mod books;
+mod columns;
+mod disks;
+mod frames;
+
+use crate::books::{asked, taken, walked};
+use crate::columns::Order;
+use crate::disks::{appended, scanned};
+use crate::frames::sent;
+use lg_disk::FileDisk;
+use std::alloc::Global;
+use std::process::ExitCode;
+use std::rt::{Env, Files};
+use std::{env, io};
+
+// The words after the program's name.
+fn words<R: Env + AllocGlobal>(rt: &R) -> io::Result<Vec<String>> {
+    let mut words = Vec::new(rt.alloc());
+    for word in env::args(rt)?.skip(1) {
+        words.push(word)?;
+    }
+    Ok(words)
+}
+
+fn number(word: &str) -> Option<u32> {
+    word.parse::<u32>().ok()
+}
+
+// What a part of the book comes to.
+fn of_book(alloc: Global, part: &str, order: &str, count: &str, times: &str) -> Option<u64> {
+    let order = Order::named(order)?;
+    let count = number(count)?;
+    let times = number(times)?;
+    if part == "book" {
+        taken(alloc, order, count, times)
+    } else if part == "find" {
+        asked(alloc, order, count, times)
+    } else if part == "walk" {
+        walked(alloc, order, count, times)
+    } else {
+        None
+    }
+}
+
+// What a part of the disk comes to.
+fn of_disk<F: Files>(files: &F, part: &str, name: &str, count: &str) -> Option<u64> {
+    let count = number(count)?;
+    let mut disk = FileDisk::at(files, name);
+    if part == "read" {
+        scanned(&mut disk, count)
+    } else if part == "append" {
+        appended(&mut disk, count)
+    } else {
+        None
+    }
+}
+
+// What the part of these words comes to.
+fn done<F: Files>(files: &F, alloc: Global, words: &[String]) -> Option<u64> {
+    match words {
+        [part, count] => {
+            if part.as_str() == "frames" {
+                sent(alloc, number(count)?)
+            } else {
+                None
+            }
+        }
+        [part, name, count] => of_disk(files, part, name, count),
+        [part, order, count, times] => of_book(alloc, part, order, count, times),
+        _ => None,
+    }
+}
+
+fn main(rt: HostRuntime) -> ExitCode {
+    let Ok(words) = words(&rt) else {
+        return ExitCode::FAILURE;
+    };
+    let Some(sum) = done(&rt, rt.alloc(), &words) else {
+        return ExitCode::FAILURE;
+    };
+    match println!(rt; "{sum}") {
+        Ok(()) => ExitCode::SUCCESS,
+        Err(_) => ExitCode::FAILURE,
+    }
+}
