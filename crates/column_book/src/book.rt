@@ -41,8 +41,12 @@ impl Model for Book {
 
     ghost Value = { BookState };
 
-    ghost view = { λ b. record { shape = b.shape; room = b.room; ready = b.ready.items;
-        entries = entries_of (dims_of b.shape) (shelf b.shape.rows b.blocks.map.entries) b.keys.items b.rows.items } };
+    ghost view = { λ b. record {
+      shape = b.shape;
+      room = b.room;
+      ready = b.ready.items;
+      entries = entries_of (dims_of b.shape) (shelf b.shape.rows b.blocks.map.entries) b.keys.items b.rows.items;
+    } };
 
     ghost invariant = { λ b. IsKept b.shape.width b.room b.blocks.map.entries b.keys.items b.rows.items b.ready.items
         (vec_capacity b.keys) (vec_capacity b.rows) };

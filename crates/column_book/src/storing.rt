@@ -57,8 +57,10 @@ impl Book {
     pub fn add(&mut self, pass: u32, upload: &Upload) -> u32
         requires fits { IsAddable self.old.shape self.old.room (records self.old.entries) upload.now }
         requires ready { IsReady self.old.ready (content self.old.entries) upload.now.columns }
-        ensures added { self.new ≡ record self.old { ready = [];
-            entries = self.old.entries ++ stored_entry pass self.old.entries upload.now ∷ [] } }
+        ensures added { self.new ≡ record self.old {
+          ready = [];
+          entries = self.old.entries ++ stored_entry pass self.old.entries upload.now ∷ [];
+        } }
         ensures applied { self.new.entries ≡ after self.old.shape self.old.room self.old.entries pass upload.now }
         ensures at { result ≡ length self.old.entries }
     {

@@ -26,7 +26,7 @@ pub enum RebuildFault {
 pub fn rebuild(alloc: Global, book: &Book, switch: u16, epoch: u32) -> Result<Sketch, RebuildFault>
     ensures { MatchResult result
         (λ s. (known_of switch epoch book.now.entries ≡ book.now.shape.width)
-            × IsRebuilt (look_in (content book.now.entries)) book.now.shape switch epoch s)
+        × IsRebuilt (look_in (content book.now.entries)) book.now.shape switch epoch s)
         (IsWanting (known_of switch epoch book.now.entries) book.now.shape.width) }
 {
     if !book.whole(switch, epoch) {

@@ -186,7 +186,11 @@ fn rebuilt_where_all_columns_are_there(rt: HostRuntime) -> Result<(), Fail> {
     assert_eq!(rt; sketch.shape(), shape);
     for index in 0..sketch.shape().width() {
         let column = sketch.column(index);
-        assert_eq!(rt; [column[0], column[1]], table[(index % 2) as usize], "column {index}");
+        assert_eq!(rt;
+            [column[0], column[1]],
+            table[(index % 2) as usize],
+            "column {index}"
+        );
     }
     Ok(())
 }

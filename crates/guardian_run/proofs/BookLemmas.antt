@@ -78,7 +78,7 @@ pub ends_uploads : (b cur : BookState) (us : List UploadData) (i : ℕ) (u : Upl
 ends_uploads b cur us i u fault inside here same before is =
     end_of (after_uploads cur (u ∷ [])) (after_uploads b us) fault
     (λ f h. ap (after_uploads b) (sym (take-append-drop (i + 1) us))
-        ∙ stops b.shape b.room (Ok b.entries) f (take (i + 1) us) (drop (i + 1) us) (next_upload b cur us i u (Err f) inside here same before h))
+    ∙ stops b.shape b.room (Ok b.entries) f (take (i + 1) us) (drop (i + 1) us) (next_upload b cur us i u (Err f) inside here same before h))
     is
 
 -- ---- host after host
@@ -113,9 +113,9 @@ pub ends_hosts : (room : ℕ) (w : Scenario) (cur : BookState) (n : ℕ) (host :
 ends_hosts room w cur n host fault inside here shape same before is =
     end_of (after_uploads cur (host_uploads w (n, host))) (booked_in room w) fault
     (λ f h. ap (fold (with_upload w.shape room 0) (Ok [])) (begin w (n + 1))
-        ∙ stops w.shape room (Ok []) f (flat_map (host_uploads w) (enumerate_from 0 (take (n + 1) w.hosts)))
-        (flat_map (host_uploads w) (enumerate_from (0 + length (take (n + 1) w.hosts)) (drop (n + 1) w.hosts)))
-        (next_host room w cur n host (Err f) inside here shape same before h))
+    ∙ stops w.shape room (Ok []) f (flat_map (host_uploads w) (enumerate_from 0 (take (n + 1) w.hosts)))
+    (flat_map (host_uploads w) (enumerate_from (0 + length (take (n + 1) w.hosts)) (drop (n + 1) w.hosts)))
+    (next_host room w cur n host (Err f) inside here shape same before h))
     is
 
 -- ---- the book of a run

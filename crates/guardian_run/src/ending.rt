@@ -51,11 +51,7 @@ fn put_refusal<K: Sink>(alloc: Global, refusal: Refusal, sink: &mut K) -> Status
 /// Writes what a command gave, and answers the status: all of its output, or the line of why it has none. Memory is
 /// taken for two lines alone, that of a scenario text that is refused and that of a book that has no room; where there
 /// is none, the end is that of want of memory.
-pub fn end<K: Sink>(
-    alloc: Global,
-    given: Result<Vec<u8>, Refusal>,
-    sink: &mut K,
-) -> Status
+pub fn end<K: Sink>(alloc: Global, given: Result<Vec<u8>, Refusal>, sink: &mut K) -> Status
     ensures output { IfOk given (λ text. EndsWith text.items (change K.written K.faults sink.old sink.new) result) }
     ensures refused { IfErr given (λ refusal. EndsRefused refusal (change K.written K.faults sink.old sink.new) result) }
 {

@@ -132,7 +132,7 @@ turned_longest (p ∷ []) k = tt
 turned_longest (p ∷ q ∷ ps) k =
     let rest : IsLongest (reverse ps ++ q ∷ []) = subst IsLongest (reverse-append (q ∷ []) ps) (turned_longest (q ∷ ps) k.2) in
     subst IsLongest (ap (λ (xs : List Piece). xs ++ p ∷ []) (sym (reverse-append (q ∷ []) ps))
-        ∙ sym (reverse-append (p ∷ []) (q ∷ ps))) (longest_more (reverse ps) q p rest k.1)
+    ∙ sym (reverse-append (p ∷ []) (q ∷ ps))) (longest_more (reverse ps) q p rest k.1)
 
 pub cut_law : LawOfTheCut
 cut_law cs = record {

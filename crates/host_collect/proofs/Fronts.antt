@@ -26,9 +26,9 @@ not_longer p c r n can within is =
           let room : nat_lt (length p) MOST_UPLOAD_COLUMNS ≡ true = grind (arith, len, longer, is.few) in
           let held : holds_key c.key p ≡ true = no_join (nat_lt (length p) MOST_UPLOAD_COLUMNS) (holds_key c.key p) can room in
           let at : slice_index_or (take n (p ++ c ∷ r)) (length p) no_column ≡ c =
-              get_or-take n (p ++ c ∷ r) (length p) no_column longer ∙ get_or-append_seam p c r no_column in
+          get_or-take n (p ++ c ∷ r) (length p) no_column longer ∙ get_or-append_seam p c r no_column in
           let before : take (length p) (take n (p ++ c ∷ r)) ≡ p =
-              take-take (length p) n (p ++ c ∷ r) (omega (arith, longer)) ∙ take_at p (c ∷ r) (length p) refl in
+          take-take (length p) n (p ++ c ∷ r) (omega (arith, longer)) ∙ take_at p (c ∷ r) (length p) refl in
           let twice : is_twice (take n (p ++ c ∷ r)) (length p) ≡ true =
           ap (λ (x : Column). holds_key x.key (take (length p) (take n (p ++ c ∷ r)))) at ∙ ap (λ (xs : Piece). holds_key c.key xs) before ∙ held in
           absurd (true≢false (sym twice ∙ is.apart (length p) (omega (arith, len, longer))))
@@ -55,7 +55,7 @@ fronts (p ∷ (c ∷ q) ∷ ps) cs e uploads longest =
       whole,
       front_of p cs rest whole uploads.0 (λ n within is.
           not_longer p c (q ++ flat ps) n longest.0 (subst (λ (x : List Column). n ≤ length x) whole within)
-              (subst (λ (x : List Column). IsUpload (take n x)) whole is)),
+          (subst (λ (x : List Column). IsUpload (take n x)) whole is)),
       fronts ((c ∷ q) ∷ ps) rest refl uploads.1 longest.1,
     )
 

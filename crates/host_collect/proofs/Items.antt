@@ -59,7 +59,7 @@ matched_same (p ∷ items) (c ∷ cs) (d ∷ ds) a b =
 first_passes : (items : List Packed) (cs : List Column) (n : ℕ) (f : CollectFault) → Matched IsPacked items cs → IsFirstRefused items n f → f ≡ Memory
 first_passes items cs n f all first =
     packed_passes (slice_index_or items n no_item) (slice_index_or cs n no_column) n f
-        (matched_at IsPacked items cs n no_item no_column all first.inside) first.refused
+    (matched_at IsPacked items cs n no_item no_column all first.inside) first.refused
 
 pub only : (host : ℕ) (items : List Packed) (cs : List Column) (r : Result (Vec UploadData) CollectFault) → Collected host items r → Matched IsPacked items cs
     → IfOk r (λ us. us.items ≡ numbered host (cut cs))
@@ -80,7 +80,7 @@ one_more : (items : List Packed) (i : ℕ) (cs : List Column) (c : Column) → i
     → Matched IsPacked (take (i + 1) items) (cs ++ c ∷ [])
 one_more items i cs c low all one =
     subst (λ (x : List Packed). Matched IsPacked x (cs ++ c ∷ [])) (sym (take_more items i no_item low))
-        (matched_push IsPacked (take i items) cs (slice_index_or items i no_item) c all one)
+    (matched_push IsPacked (take i items) cs (slice_index_or items i no_item) c all one)
 
 same_host : (r : CutterData) (c : Column) → (with_item r c).1.host ≡ r.host
 same_host r c = by (can_join r.held c)

@@ -114,6 +114,9 @@ fn fault_lines(rt: HostRuntime) -> Result<(), Fail> {
 
     let mut out = Vec::new(rt.alloc());
     put_full_line(&mut out, 0, 1)?;
-    assert_eq!(rt; out.as_slice(), b"guardian: full with 0 and 1 more\n".as_slice());
+    assert_eq!(rt;
+        out.as_slice(),
+        b"guardian: full with 0 and 1 more\n".as_slice()
+    );
     Ok(())
 }

@@ -4,9 +4,8 @@ ghost use Rattle.flow_key.specs.KeyText.{key_bytes};
 ghost use Rattle.lg_model.specs.Placing.{mixed, place, places_of};
 
 use crate::row_places::Places;
-use lg_model::Shape;
 use flow_key::FlowKey;
-use lg_model::Hash;
+use lg_model::{Hash, Shape};
 
 /// By how much the beginnings of two neighbouring rows differ.
 const STRIDE: u64 = 0x9E37_79B9_7F4A_7C15;

@@ -107,7 +107,7 @@ found_over m e n [] h q = h q
 found_over m e n (c ∷ cs) h q =
     found_over m (with_column e c) (with_column n c) cs
     (λ p. found-insert n c.key p c.cells ∙ ap (cond (at_key p c.key) (Some c.cells)) (h p) ∙ swap (at_key p c.key) c.cells (found e p) (found m p)
-        ∙ ap (λ (o : Option Cells). option_or o (found m p)) (sym (found-insert e c.key p c.cells)))
+    ∙ ap (λ (o : Option Cells). option_or o (found m p)) (sym (found-insert e c.key p c.cells)))
     q
 
 -- insertions of columns are the join with their content

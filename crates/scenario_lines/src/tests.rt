@@ -42,9 +42,23 @@ fn seventeen_switches(rt: HostRuntime) -> Result<(), Fail> {
         draft.line(line.as_bytes())?;
     }
     for line in [
-        "switch 1", "switch 2", "switch 3", "switch 4", "switch 5", "switch 6", "switch 7",
-        "switch 8", "switch 9", "switch 10", "switch 11", "switch 12", "switch 13", "switch 14",
-        "switch 15", "switch 16", "switch 17",
+        "switch 1",
+        "switch 2",
+        "switch 3",
+        "switch 4",
+        "switch 5",
+        "switch 6",
+        "switch 7",
+        "switch 8",
+        "switch 9",
+        "switch 10",
+        "switch 11",
+        "switch 12",
+        "switch 13",
+        "switch 14",
+        "switch 15",
+        "switch 16",
+        "switch 17",
     ] {
         draft.line(line.as_bytes())?;
     }
