@@ -33,7 +33,8 @@ refused_by b u f is = ap (booked_by b.entries 0 u) ((law b.shape b.room b.entrie
 pub known_by : (b : BookState) (u : UploadData) → checked b.shape b.room (records b.entries) u ≡ Ok 0 → after_uploads b (u ∷ []) ≡ Ok b.entries
 known_by b u is = ap (booked_by b.entries 0 u) ((law b.shape b.room b.entries 0 u).known is).0
 
-taken_after : (es : List Entry) (u : UploadData) (d : Result (List Column) BookFault) (new : List Column) → d ≡ Ok new → booked_by es 0 u d ≡ Ok (after_decision es 0 u d)
+taken_after : (es : List Entry) (u : UploadData) (d : Result (List Column) BookFault) (new : List Column) → d ≡ Ok new →
+    booked_by es 0 u d ≡ Ok (after_decision es 0 u d)
 taken_after es u (Ok n) new is = refl
 taken_after es u (Err f) new is = absurd (cc)
 
@@ -43,7 +44,8 @@ stored_by b u m low is =
     let s = (law b.shape b.room b.entries 0 u).stored m low is in
     taken_after b.entries u _ _ s.0 ∙ ap (λ (es : List Entry). Ok es) s.1
 
-pub addable_by : (shape : Shape) (room : ℕ) (rs : List UploadData) (u : UploadData) (m : ℕ) → 0 < m → checked shape room rs u ≡ Ok m → IsAddable shape room rs u
+pub addable_by : (shape : Shape) (room : ℕ) (rs : List UploadData) (u : UploadData) (m : ℕ) → 0 < m → checked shape room rs u ≡ Ok m →
+    IsAddable shape room rs u
 addable_by shape room rs u m low is = subst (λ (r : Result ℕ BookFault). IsOkAnd r (λ n. 0 < n)) (sym is) low
 
 -- ---- upload after upload
@@ -59,17 +61,20 @@ stops shape room start f us vs is =
     fold-append (with_upload shape room 0) start us vs ∙ ap (λ (r : Result (List Entry) BookFault). fold (with_upload shape room 0) r vs) is
     ∙ after_fault shape room f vs
 
-pub next_upload : (b cur : BookState) (us : List UploadData) (i : ℕ) (u : UploadData) (r : Result (List Entry) BookFault) → i < length us → u ≡ slice_index_or us i u →
+pub next_upload : (b cur : BookState) (us : List UploadData) (i : ℕ) (u : UploadData) (r : Result (List Entry) BookFault) → i < length us →
+    u ≡ slice_index_or us i u →
     IsSameBook b cur → after_uploads b (take i us) ≡ Ok cur.entries → after_uploads cur (u ∷ []) ≡ r → after_uploads b (take (i + 1) us) ≡ r
 next_upload b cur us i u r inside here same before is =
     fold_more (with_upload b.shape b.room 0) (Ok b.entries) us i u inside
     ∙ (λ j. with_upload (sym same.shape j) (sym same.room j) 0 (before j) (sym here j)) ∙ is
 
-pub all_uploads : (b : BookState) (us : List UploadData) (i : ℕ) (r : Result (List Entry) BookFault) → i ≡ length us → after_uploads b (take i us) ≡ r → after_uploads b us ≡ r
+pub all_uploads : (b : BookState) (us : List UploadData) (i : ℕ) (r : Result (List Entry) BookFault) → i ≡ length us → after_uploads b (take i us) ≡ r →
+    after_uploads b us ≡ r
 all_uploads b us i r end is = ap (after_uploads b) (sym (take_all i us (omega (arith, end)))) ∙ is
 
 -- what ends one part of a booking ends all of it
-pub end_of : (part all : Result (List Entry) BookFault) (fault : BookingFault) → ((f : BookFault) → part ≡ Err f → all ≡ Err f) → IsEndOf part fault → IsEndOf all fault
+pub end_of : (part all : Result (List Entry) BookFault) (fault : BookingFault) → ((f : BookFault) → part ≡ Err f → all ≡ Err f) → IsEndOf part fault →
+    IsEndOf all fault
 end_of part all (faults.Book f) more is = more f is
 end_of part all faults.Memory more is = tt
 
@@ -121,7 +126,8 @@ ends_hosts room w cur n host fault inside here shape same before is =
 -- ---- the book of a run
 
 -- what a `?` hands on
-pub err_ends : {T : Type 0} → (r : Result T BookingFault) (y fault : BookingFault) (all : Result (List Entry) BookFault) → r ≡ Err y → y ≡ fault → IsEndOf all fault → IfErr r (IsEndOf all)
+pub err_ends : {T : Type 0} → (r : Result T BookingFault) (y fault : BookingFault) (all : Result (List Entry) BookFault) → r ≡ Err y → y ≡ fault →
+    IsEndOf all fault → IfErr r (IsEndOf all)
 err_ends {T} r y fault all is same ends = subst (λ (x : Result T BookingFault). IfErr x (IsEndOf all)) (sym is) (subst (IsEndOf all) (sym same) ends)
 
 pub booked_is : (w : Scenario) → booked w ≡ booked_in ROOM w

@@ -31,7 +31,8 @@ pub record HasOutput (command : Command) (source : Change) (text : List ℕ) : T
   pub output : text ≡ output_of command scenario
   pub never_falls : source.faults_old ≤ source.faults_new
 
--- `run` has read a scenario from its source for whose columns a book has no room, by the first upload that it does not take.
+-- `run` has read a scenario from its source for whose columns a book has no room; the counts are those of the first
+-- upload that it does not take.
 pub record HasNoRoom (command : Command) (source : Change) (held more : ℕ) : Type 0 where
   pub run : command ≡ Run
   pub scenario : Scenario

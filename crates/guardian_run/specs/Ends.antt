@@ -54,7 +54,8 @@ pub record IsAnswered (asked : Option Command) (said : Result Scenario Fault) (s
   -- `ReadFault` and `WriteFault` come only where the source, the sink failed.
   pub read : s ≡ status.ReadFault → HasFailed source
   pub write : s ≡ status.WriteFault → HasFailed sink
-  -- Where nothing is wrong with the words and the text, there is room, and neither fails, the status is `Ok` or `NoMemory`.
+  -- Where nothing is wrong with the words and the text, there is room, and neither fails, the status is `Ok` or
+  -- `NoMemory`.
   pub complete : IsSome asked → IsOk said → (IsShortOfRoom asked said → ⊥) → (HasFailed source → ⊥) → (HasFailed sink → ⊥)
       → IsComplete s
 

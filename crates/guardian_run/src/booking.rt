@@ -51,7 +51,8 @@ impl From<Memory> for BookingFault {
     }
 }
 
-// Stores the new columns of an upload for which a check has given this mask, as pass 0. Memory where there is none for it.
+// Stores the new columns of an upload for which a check has given this mask, as pass 0. Memory where there is none for
+// them.
 fn store(book: &mut Book, upload: &Upload, mask: u16) -> Result<(), Memory>
     requires { checked book.old.shape book.old.room (records book.old.entries) upload.now ≡ Ok mask }
     ensures same { IfOk result (λ _. IsSameBook book.old book.new) }
@@ -98,7 +99,7 @@ fn uploads_of(
 }
 
 // The book of a run in a book with that room, or the first fault of its booking.
-fn book_in(
+pub(crate) fn book_in(
     alloc: Global,
     scenario: &Scenario,
     arrivals: &Arrivals,
@@ -123,8 +124,8 @@ fn book_in(
 }
 
 /// The book of a run: all columns that came to the hosts. `Full` exactly where a book has no room for an upload, with the
-/// columns that it has and the new ones of that upload; it comes where the columns that came have more keys than a book
-/// may have. `Memory` where no memory was found.
+/// columns that it has and the new ones of that upload: the columns that came have more keys than a book may have.
+/// `Memory` where no memory was found.
 pub(crate) fn book_run(
     alloc: Global,
     scenario: &Scenario,

@@ -1,9 +1,16 @@
 //! Scenarios with known outputs, through the top call.
 
-ghost use Rattle.std.specs.Prelude.{◌<◌};
+ghost use Rattle.std.specs.Prelude.{◌<◌, ◌≤◌};
+ghost use Rattle.column_book.specs.declared.book.TheConstants.{ROOM};
 
+use crate::booking::{BookingFault, book_in};
+use crate::ending::end;
+use crate::refusal::Refusal;
 use crate::{Status, guardian, guardian_read};
+use column_book::{BookFault, ROOM};
 use lg_base::{MemorySink, MemorySource};
+use path_sim::run_own;
+use scenario_text::read;
 use std::alloc::Global;
 use std::test::Fail;
 
@@ -338,10 +345,61 @@ fn exit_statuses(rt: HostRuntime) -> Result<(), Fail> {
         (Status::BadScenario, 2),
         (Status::ReadFault, 3),
         (Status::WriteFault, 4),
+        (Status::Full, 10),
         (Status::NoMemory, 11),
     ];
     for (status, code) in codes {
         assert_eq!(rt; status.code(), code);
     }
+    Ok(())
+}
+
+// How many columns a book of that room has after the run of a scenario, or the fault.
+fn count_in(alloc: Global, rest: &str, room: u32) -> Result<Result<u32, BookFault>, Fail>
+    requires some { 1 ≤ room }
+    requires most { room ≤ ROOM }
+{
+    let text = joined(alloc, FOUR, rest)?;
+    let mut source = MemorySource::new(text, 7, Vec::new(alloc));
+    let Ok(scenario) = read(alloc, &mut source) else {
+        return Err("no scenario".into());
+    };
+    let arrivals = run_own(alloc, &scenario)?;
+    match book_in(alloc, &scenario, &arrivals, room) {
+        Ok(book) => Ok(Ok(book.count())),
+        Err(BookingFault::Book(fault)) => Ok(Err(fault)),
+        Err(BookingFault::Memory) => Err("no memory".into()),
+    }
+}
+
+#[test]
+fn books_what_there_is_room_for(rt: HostRuntime) -> Result<(), Fail> {
+    let alloc = rt.alloc();
+    // One upload of two columns.
+    let rest = "packet 1 100 10\npacket 2 50 30\nend 1\npacket 1 10 1\npacket 1 10 1\ndone\n";
+    assert_eq!(rt; count_in(alloc, rest, ROOM)?, Ok(2));
+    assert_eq!(rt; count_in(alloc, rest, 2)?, Ok(2));
+    assert_eq!(rt; count_in(alloc, rest, 1)?, Err(BookFault::Full { held: 0, more: 2 }));
+    // The first column comes twice, so the second upload has it again, and the other.
+    let rest =
+        "packet 1 100 10\npacket 2 50 30\nend 1\npacket 1 10 1 twice\npacket 1 10 1\ndone\n";
+    assert_eq!(rt; count_in(alloc, rest, 2)?, Ok(2));
+    assert_eq!(rt; count_in(alloc, rest, 1)?, Err(BookFault::Full { held: 1, more: 1 }));
+    Ok(())
+}
+
+#[test]
+fn a_book_that_is_full(rt: HostRuntime) -> Result<(), Fail> {
+    let alloc = rt.alloc();
+    let mut sink = MemorySink::new(alloc, 7, Vec::new(alloc));
+    let refusal = Refusal::Full {
+        held: 262144,
+        more: 16,
+    };
+    let status = end(alloc, Err(refusal), &mut sink);
+    assert_eq!(rt;
+        (status, sink.bytes()),
+        (Status::Full, b"guardian: full with 262144 and 16 more\n".as_slice())
+    );
     Ok(())
 }

@@ -21,6 +21,6 @@ no_memory_line = line (codes "guardian: no memory")
 unfoldable pub scenario_line : ℕ × Why → List ℕ
 scenario_line (n, why) = line (codes "guardian: scenario line " ++ decimal n ++ codes ": " ++ why_text why)
 
--- `guardian: full with H and M more`, of the columns that a book has and the new ones for which it has no room
+-- `guardian: full with H and M more`: the columns that a book has, and the new ones for which it has no room
 unfoldable pub full_line : (held more : ℕ) → List ℕ
 full_line held more = line (codes "guardian: full with " ++ decimal held ++ codes " and " ++ decimal more ++ codes " more")

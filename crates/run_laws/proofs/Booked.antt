@@ -66,12 +66,14 @@ module _ (shape : Shape) (room pass : ℕ) (may : Key → Cells → Type 0) wher
   One es u (Err (Full held more)) = room < length (with_all es u.columns)
   One es u (Ok new) = (content new ≡ with_all es u.columns) × ((length (columns_of new) ≡ length (content new)) × (length (columns_of new) ≤ room))
 
-  joined : (es : List Entry) (u : UploadData) (new : List Column) → decide shape room (records es) u ≡ Ok new → content (with_new es pass u new) ≡ with_all es u.columns
+  joined : (es : List Entry) (u : UploadData) (new : List Column) → decide shape room (records es) u ≡ Ok new →
+      content (with_new es pass u new) ≡ with_all es u.columns
   joined es u new is =
       ap (λ (d : Result (List Column) BookFault). content (after_decision es pass u d)) (sym is) ∙ (joins.law shape room es pass u new is).joined
       ∙ join_inserts (content es) u.columns (ordered es)
 
-  one_by : (es : List Entry) (u : UploadData) → IsSound may room es → All (IsGood shape may) u.columns → IsUpload u.columns → (d : Result (List Column) BookFault) →
+  one_by : (es : List Entry) (u : UploadData) → IsSound may room es → All (IsGood shape may) u.columns → IsUpload u.columns →
+      (d : Result (List Column) BookFault) →
       decide shape room (records es) u ≡ d → Follows shape room (records es) u d → One es u (booked_by es pass u d)
   one_by es u sound good is (Err (WrongShape kept came)) same f =
       let bad = f.1.0 in
@@ -106,14 +108,16 @@ module _ (shape : Shape) (room pass : ℕ) (may : Key → Cells → Type 0) wher
   after_fault f [] = refl
   after_fault f (u ∷ us) = after_fault f us
 
-  too_much : (f : BookFault) (es : List Entry) (u : UploadData) (rest : List Column) → One es u (Err f) → Comes room (fold with_column (with_all es u.columns) rest) (Err f)
+  too_much : (f : BookFault) (es : List Entry) (u : UploadData) (rest : List Column) → One es u (Err f) →
+      Comes room (fold with_column (with_all es u.columns) rest) (Err f)
   too_much (WrongShape kept came) es u rest h = absurd h
   too_much (Conflict key kept came) es u rest h = absurd h
   too_much (Full held more) es u rest h =
       let low = grows (with_all es u.columns) rest (joins.in_order (content es) u.columns (ordered es)) in
       omega (arith, h, low)
 
-  knows_more : (es new : List Entry) (cs : List Column) → content new ≡ with_all es cs → IsSound may room es → All (IsGood shape may) cs → (q : Key) → IfSome (found (content new) q) (may q)
+  knows_more : (es new : List Entry) (cs : List Column) → content new ≡ with_all es cs → IsSound may room es → All (IsGood shape may) cs → (q : Key) →
+      IfSome (found (content new) q) (may q)
   knows_more es new cs is sound good q =
       subst (λ (m : Content). IfSome (found m q) (may q)) (sym is)
       (agrees_all may q cs (content es) (λ i d inside. (good i d inside).kept) (sound.knows q))
@@ -122,7 +126,8 @@ module _ (shape : Shape) (room pass : ℕ) (may : Key → Cells → Type 0) wher
   split P [] ys all = (tt, all)
   split P (x ∷ xs) ys all = let rest = split P xs ys all.1 in ((all.0, rest.0), rest.1)
 
-  pub comes : (us : List UploadData) (es : List Entry) → IsSound may room es → AllByRecursion (IsGood shape may) (columns_in us) → AllByRecursion (λ (u : UploadData). IsUpload u.columns) us →
+  pub comes : (us : List UploadData) (es : List Entry) → IsSound may room es → AllByRecursion (IsGood shape may) (columns_in us) →
+      AllByRecursion (λ (u : UploadData). IsUpload u.columns) us →
       Comes room (with_all es (columns_in us)) (fold (with_upload shape room pass) (Ok es) us)
   comes [] es sound good each = let n = sound.each in let few = sound.few in (refl, omega (arith, n, few))
   comes (u ∷ us) es sound good each = by (booked_by es pass u (decide shape room (records es) u)) (one es u sound here each.0) (λ new s. comes us new s parts.1 each.1)

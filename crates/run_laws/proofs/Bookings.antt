@@ -28,14 +28,16 @@ use Rattle.run_laws.proofs.True.{Placed, Kept, kept_all, frozen_all}
 
 -- ---- the columns of the uploads
 
-numbered_columns : (host k : ℕ) (ps : List Piece) → columns_in (map (λ (p : ℕ × Piece). upload_of host p.0 p.1) (enumerate_from k ps)) ≡ flat_map (λ (p : Piece). p) ps
+numbered_columns : (host k : ℕ) (ps : List Piece) →
+    columns_in (map (λ (p : ℕ × Piece). upload_of host p.0 p.1) (enumerate_from k ps)) ≡ flat_map (λ (p : Piece). p) ps
 numbered_columns host k [] = refl
 numbered_columns host k (p ∷ ps) = ap (λ (cs : List Column). p ++ cs) (numbered_columns host (k + 1) ps)
 
 host_columns : (w : Scenario) (k : ℕ) (h : HostLine) → columns_in (host_uploads w (k, h)) ≡ brought w (picked w) k
 host_columns w k h = numbered_columns h.name 0 (cut (brought w (picked w) k)) ∙ cut_whole (brought w (picked w) k)
 
-columns_from : (w : Scenario) (k : ℕ) (hs : List HostLine) → columns_in (flat_map (host_uploads w) (enumerate_from k hs)) ≡ flat_map (brought w (picked w)) (range_with_len k (length hs))
+columns_from : (w : Scenario) (k : ℕ) (hs : List HostLine) →
+    columns_in (flat_map (host_uploads w) (enumerate_from k hs)) ≡ flat_map (brought w (picked w)) (range_with_len k (length hs))
 columns_from w k [] = refl
 columns_from w k (h ∷ hs) =
     flat_map-append (λ (u : UploadData). u.columns) (host_uploads w (k, h)) (flat_map (host_uploads w) (enumerate_from (k + 1) hs))
@@ -43,7 +45,9 @@ columns_from w k (h ∷ hs) =
 
 -- ---- each is an upload
 
-numbered_each : (host k : ℕ) (ps : List Piece) → AllByRecursion IsUpload ps → AllByRecursion (λ (u : UploadData). IsUpload u.columns) (map (λ (p : ℕ × Piece). upload_of host p.0 p.1) (enumerate_from k ps))
+
+numbered_each : (host k : ℕ) (ps : List Piece) → AllByRecursion IsUpload ps →
+    AllByRecursion (λ (u : UploadData). IsUpload u.columns) (map (λ (p : ℕ × Piece). upload_of host p.0 p.1) (enumerate_from k ps))
 numbered_each host k [] all = tt
 numbered_each host k (p ∷ ps) all = (all.0, numbered_each host (k + 1) ps all.1)
 
@@ -51,7 +55,8 @@ both_all : (P : UploadData → Type 0) (us vs : List UploadData) → AllByRecurs
 both_all P [] vs a b = b
 both_all P (u ∷ us) vs a b = (a.0, both_all P us vs a.1 b)
 
-each_from : (w : Scenario) (k : ℕ) (hs : List HostLine) → AllByRecursion (λ (u : UploadData). IsUpload u.columns) (flat_map (host_uploads w) (enumerate_from k hs))
+each_from : (w : Scenario) (k : ℕ) (hs : List HostLine) →
+    AllByRecursion (λ (u : UploadData). IsUpload u.columns) (flat_map (host_uploads w) (enumerate_from k hs))
 each_from w k [] = tt
 each_from w k (h ∷ hs) =
     both_all (λ (u : UploadData). IsUpload u.columns) (host_uploads w (k, h)) (flat_map (host_uploads w) (enumerate_from (k + 1) hs))

@@ -27,12 +27,14 @@ abbrev pub uploads_of : Scenario → List UploadData
 uploads_of w = flat_map (host_uploads w) (enumerate_from 0 w.hosts)
 
 -- The entries after an upload, by what it comes to.
-abbrev pub booked_by : List Entry → (pass : ℕ) → UploadData → Result (List Column) BookFault → Result (List Entry) BookFault
+abbrev pub booked_by : List Entry → (pass : ℕ) → UploadData → Result (List Column) BookFault
+    → Result (List Entry) BookFault
 booked_by es pass u (Err f) = Err f
 booked_by es pass u (Ok new) = Ok (with_new es pass u new)
 
 -- One upload more is booked, unless a fault has ended it.
-abbrev pub with_upload : Shape → (room pass : ℕ) → Result (List Entry) BookFault → UploadData → Result (List Entry) BookFault
+abbrev pub with_upload : Shape → (room pass : ℕ) → Result (List Entry) BookFault → UploadData
+    → Result (List Entry) BookFault
 with_upload shape room pass (Err f) u = Err f
 with_upload shape room pass (Ok es) u = booked_by es pass u (decide shape room (records es) u)
 
@@ -44,8 +46,8 @@ booked_in room w = fold (with_upload w.shape room 0) (Ok []) (uploads_of w)
 unfoldable pub booked : Scenario → Result (List Entry) BookFault
 booked w = booked_in ROOM w
 
--- What follows: a fault is that of too little room; and where there is none, the content of the entries is the book of the
--- run.
+-- What follows: the one fault is that of too little room; where there is none, the content of the entries is the book of
+-- the run.
 abbrev pub IsBooking : Scenario → (room : ℕ) → Result (List Entry) BookFault → Type 0
 IsBooking w room (Err (WrongShape kept came)) = ⊥
 IsBooking w room (Err (Conflict key kept came)) = ⊥
