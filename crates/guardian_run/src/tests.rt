@@ -379,12 +379,17 @@ fn books_what_there_is_room_for(rt: HostRuntime) -> Result<(), Fail> {
     let rest = "packet 1 100 10\npacket 2 50 30\nend 1\npacket 1 10 1\npacket 1 10 1\ndone\n";
     assert_eq!(rt; count_in(alloc, rest, ROOM)?, Ok(2));
     assert_eq!(rt; count_in(alloc, rest, 2)?, Ok(2));
-    assert_eq!(rt; count_in(alloc, rest, 1)?, Err(BookFault::Full { held: 0, more: 2 }));
+    assert_eq!(rt;
+        count_in(alloc, rest, 1)?,
+        Err(BookFault::Full { held: 0, more: 2 })
+    );
     // The first column comes twice, so the second upload has it again, and the other.
-    let rest =
-        "packet 1 100 10\npacket 2 50 30\nend 1\npacket 1 10 1 twice\npacket 1 10 1\ndone\n";
+    let rest = "packet 1 100 10\npacket 2 50 30\nend 1\npacket 1 10 1 twice\npacket 1 10 1\ndone\n";
     assert_eq!(rt; count_in(alloc, rest, 2)?, Ok(2));
-    assert_eq!(rt; count_in(alloc, rest, 1)?, Err(BookFault::Full { held: 1, more: 1 }));
+    assert_eq!(rt;
+        count_in(alloc, rest, 1)?,
+        Err(BookFault::Full { held: 1, more: 1 })
+    );
     Ok(())
 }
 
@@ -399,7 +404,10 @@ fn a_book_that_is_full(rt: HostRuntime) -> Result<(), Fail> {
     let status = end(alloc, Err(refusal), &mut sink);
     assert_eq!(rt;
         (status, sink.bytes()),
-        (Status::Full, b"guardian: full with 262144 and 16 more\n".as_slice())
+        (
+            Status::Full,
+            b"guardian: full with 262144 and 16 more\n".as_slice()
+        )
     );
     Ok(())
 }

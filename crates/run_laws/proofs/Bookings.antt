@@ -45,7 +45,6 @@ columns_from w k (h ∷ hs) =
 
 -- ---- each is an upload
 
-
 numbered_each : (host k : ℕ) (ps : List Piece) → AllByRecursion IsUpload ps →
     AllByRecursion (λ (u : UploadData). IsUpload u.columns) (map (λ (p : ℕ × Piece). upload_of host p.0 p.1) (enumerate_from k ps))
 numbered_each host k [] all = tt
