@@ -249,7 +249,7 @@ fn count_of(alloc: Global, stream: &[u8], len: usize) -> Result<usize, Fail> {
         return Err("no length".into());
     }
     let mut reader = Reader::new(alloc);
-    let mut count = 0;
+    let mut count: usize = 0;
     for piece in stream.chunks(len) {
         if !is_fed(&mut reader, piece) {
             return Err("not fed".into());
@@ -257,7 +257,7 @@ fn count_of(alloc: Global, stream: &[u8], len: usize) -> Result<usize, Fail> {
         for _ in 0..100 {
             match reader.next() {
                 Ok(None) => break,
-                Ok(Some(_)) => count += 1,
+                Ok(Some(_)) => count = count.saturating_add(1),
                 Err(_) => return Err("refused".into()),
             }
         }
