@@ -2,7 +2,7 @@
 
 ghost use Rattle.std.specs.Prelude.{◌<◌};
 
-use crate::{ScenarioFault, Why, prefix_decides, read, worked_texts};
+use crate::{Scenario, ScenarioFault, Why, prefix_decides, read, worked_texts};
 use flow_key::FlowKey;
 use lg_base::MemorySource;
 use lg_model::{Fate, Pick, Step};
@@ -42,6 +42,27 @@ pub(crate) fn fault(
     Ok(answer)
 }
 
+// The scenario of a text that comes in pieces of that size.
+fn scenario_of(alloc: Global, text: &[u8], piece: usize) -> Result<Scenario, Fail>
+    requires { 0 < piece }
+{
+    let mut source = source(alloc, text, piece)?;
+    Ok(read(alloc, &mut source)?)
+}
+
+// The fault of a text in pieces of 4,096 bytes.
+fn fault_at_once(alloc: Global, text: &[u8]) -> Result<Option<ScenarioFault>, Fail> {
+    let mut source = source(alloc, text, 4096)?;
+    Ok(read(alloc, &mut source).err())
+}
+
+// These bytes, and so many of one byte that the length is this.
+fn filled(alloc: Global, front: &[u8], len: usize, byte: u8) -> Result<Vec<u8>, Fail> {
+    let mut text = front.to_vec(alloc)?;
+    text.resize(len, byte)?;
+    Ok(text)
+}
+
 pub(crate) fn bad(line: u32, why: Why) -> Option<ScenarioFault> {
     Some(ScenarioFault::Bad { line, why })
 }
@@ -49,8 +70,7 @@ pub(crate) fn bad(line: u32, why: Why) -> Option<ScenarioFault> {
 #[test]
 fn the_first_scenario(rt: HostRuntime) -> Result<(), Fail> {
     for piece in [1, 7, 4096] {
-        let mut source = source(rt.alloc(), FIRST.as_bytes(), piece)?;
-        let scenario = read(rt.alloc(), &mut source)?;
+        let scenario = scenario_of(rt.alloc(), FIRST.as_bytes(), piece)?;
         let shape = scenario.shape();
         assert_eq!(rt;
             (shape.rows(), shape.width(), shape.hash()),
@@ -78,8 +98,7 @@ fn the_first_scenario(rt: HostRuntime) -> Result<(), Fail> {
 
 #[test]
 fn the_steps_of_the_first_scenario(rt: HostRuntime) -> Result<(), Fail> {
-    let mut source = source(rt.alloc(), FIRST.as_bytes(), 4096)?;
-    let scenario = read(rt.alloc(), &mut source)?;
+    let scenario = scenario_of(rt.alloc(), FIRST.as_bytes(), 4096)?;
     let [first, Step::End { switch_at }, last] = scenario.steps() else {
         return Err("other steps")?;
     };
@@ -272,32 +291,21 @@ fn steps(rt: HostRuntime) -> Result<(), Fail> {
 
 #[test]
 fn texts_that_are_long(rt: HostRuntime) -> Result<(), Fail> {
-    let mut text = b"#".to_vec(rt.alloc())?;
-    text.resize(1_000_000, b'x')?;
-    text.extend_from_slice(b"\nguardian 1\nshape 1 1 ports\npick turns\ndone\n")?;
-    let mut whole = source(rt.alloc(), &text, 4096)?;
-    assert!(rt; read(rt.alloc(), &mut whole).is_ok());
+    let alloc = rt.alloc();
+    let end = b"\nguardian 1\nshape 1 1 ports\npick turns\ndone\n";
+    let mut text = filled(alloc, b"#", 1_000_000, b'x')?;
+    text.extend_from_slice(end)?;
+    assert_eq!(rt; fault_at_once(alloc, &text)?, None);
 
-    let mut text = b"guardian 1\n".to_vec(rt.alloc())?;
-    text.resize(16_777_215, b'\n')?;
-    let mut short = source(rt.alloc(), &text, 4096)?;
-    assert_eq!(rt;
-        read(rt.alloc(), &mut short).err(),
-        bad(16_777_206, Why::NoDone)
-    );
+    let mut text = filled(alloc, b"guardian 1\n", 16_777_215, b'\n')?;
+    assert_eq!(rt; fault_at_once(alloc, &text)?, bad(16_777_206, Why::NoDone));
     text.push(b'\n')?;
-    let mut long = source(rt.alloc(), &text, 4096)?;
-    assert_eq!(rt;
-        read(rt.alloc(), &mut long).err(),
-        bad(16_777_207, Why::TooLong)
-    );
+    assert_eq!(rt; fault_at_once(alloc, &text)?, bad(16_777_207, Why::TooLong));
 
     // One line, and `done` after the bytes that are looked at.
-    let mut text = b"#".to_vec(rt.alloc())?;
-    text.resize(16_777_216, b'x')?;
-    text.extend_from_slice(b"\nguardian 1\nshape 1 1 ports\npick turns\ndone\n")?;
-    let mut late = source(rt.alloc(), &text, 4096)?;
-    assert_eq!(rt; read(rt.alloc(), &mut late).err(), bad(1, Why::TooLong));
+    let mut text = filled(alloc, b"#", 16_777_216, b'x')?;
+    text.extend_from_slice(end)?;
+    assert_eq!(rt; fault_at_once(alloc, &text)?, bad(1, Why::TooLong));
     Ok(())
 }
 
