@@ -5,6 +5,17 @@
 pub enum Command {
     /// Read a scenario, run its network, and write the report.
     Run,
+    /// Read a scenario, and write the report on the book as it is.
+    Ask,
+    /// Write all columns of the book.
+    List,
+    /// Write the sketch of a switch and an epoch, rebuilt of the columns of the book.
+    Rebuild {
+        /// The name of the switch.
+        switch: u16,
+        /// The epoch.
+        epoch: u32,
+    },
     /// Read a scenario, run its network, and write the sketchlets that came to the hosts.
     Capture,
 }

@@ -20,11 +20,14 @@ use Rattle.column_book.specs.declared.fault.BookFault.{BookFault}
 use Rattle.column_book.specs.declared.fault.BookFault.TheVariants.{WrongShape, Conflict, Full}
 use Rattle.column_book.specs.Entries.{columns_in}
 use Rattle.scenario_parts.specs.Whole.{IsWhole}
-use Rattle.run_laws.specs.Truth.{book_of, IsFrozen}
+use Rattle.lg_model.specs.Joining.{IsFrozen}
+use Rattle.scenario_lines.specs.Readable.{AreApart}
+use Rattle.run_laws.specs.Truth.{book_of, IsFrozenColumn}
+use Rattle.run_laws.proofs.Agreeing.{cells_at}
 use Rattle.run_laws.specs.Booking.{host_uploads, uploads_of, with_upload, booked_in, IsBooking, LawOfBookings}
 use Rattle.run_laws.proofs.Brought.{placed}
 use Rattle.run_laws.proofs.Booked.{IsGood, IsSound, Comes, comes}
-use Rattle.run_laws.proofs.True.{Placed, Kept, kept_all, frozen_all}
+use Rattle.run_laws.proofs.True.{Placed, frozen_all}
 
 -- ---- the columns of the uploads
 
@@ -63,8 +66,12 @@ each_from w k (h ∷ hs) =
 
 -- ---- the law
 
-good : (w : Scenario) (c : Column) → IsFrozen w c → Kept w c.key c.cells → IsGood w.shape (Kept w) c
-good w c is kept = record { sized = is.dims; kept = kept; sole = λ v h. h is.switch_at is.switch ∙ sym is.cells }
+good : (w : Scenario) (c : Column) → AreApart w.switches → IsFrozenColumn w c → IsGood w.shape (IsFrozen w) c
+good w c own it = record {
+  sized = it.dims;
+  kept = it.is;
+  sole = λ v h. cells_at w c.key v it.is.switch_at own h it.is.switch ∙ sym it.is.same;
+}
 
 booking : (w : Scenario) (room : ℕ) (r : Result (List Entry) BookFault) → Comes room (book_of w) r → IsBooking w room r
 booking w room (Err (WrongShape kept came)) h = h
@@ -77,10 +84,9 @@ law w room whole =
     let all : Placed w = placed w (picked w) whole.fits (picked_is_allowed w whole.fits.shape.some_width) in
     let came = brought_to_all w (picked w) in
     let frozen = frozen_all w all in
-    let kept = kept_all w whole.lines.own_switches all in
     let is : columns_in (uploads_of w) ≡ came = columns_from w 0 w.hosts in
-    let goods = recursion_from_All (IsGood w.shape (Kept w)) came (λ i d inside. good w _ (frozen i d inside) (kept i d inside)) in
+    let goods = recursion_from_All (IsGood w.shape (IsFrozen w)) came (λ i d inside. good w _ whole.lines.own_switches (frozen i d inside)) in
     booking w room (booked_in room w)
     (subst (λ (cs : List Column). Comes room (content_of cs) (booked_in room w)) is
-    (comes w.shape room 0 (Kept w) (uploads_of w) [] (record { knows = λ q. tt; each = refl; few = omega arith })
-    (subst (AllByRecursion (IsGood w.shape (Kept w))) (sym is) goods) (each_from w 0 w.hosts)))
+    (comes w.shape room 0 (IsFrozen w) (uploads_of w) [] (record { knows = λ q. tt; each = refl; few = omega arith })
+    (subst (AllByRecursion (IsGood w.shape (IsFrozen w))) (sym is) goods) (each_from w 0 w.hosts)))

@@ -1,5 +1,6 @@
 pub mod Found
 pub mod Brought
+pub mod Agreeing
 pub mod True
 pub mod Insertions
 pub mod Booked

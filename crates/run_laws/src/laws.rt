@@ -1,6 +1,12 @@
 //! Laws over the definitions alone, on functions with empty bodies.
 ghost use Rattle.run_laws.specs.Booking.{LawOfBookings};
-ghost use Rattle.run_laws.specs.Truth.{LawOfTrueRuns};
+ghost use Rattle.run_laws.specs.Truth.{LawOfTrueBooks, LawOfTrueRuns};
+
+/// The law of true books: in a book whose content agrees with a scenario, the answer to each ask is true, and each sketch
+/// that can be rebuilt is the one that its switch froze (docs/DEFINITIONS.md, Answer).
+pub fn books_are_true()
+    ensures { LawOfTrueBooks }
+{}
 
 /// The law of true runs: in the run of any scenario, what the packets carry is allowed, each column that comes to a host
 /// is the one its switch froze, columns of one key are equal, and each answer of the report is true
