@@ -35,3 +35,18 @@ WritesFront sink text = AppendsFront sink.old sink.new text × HasFailed sink
 -- Either.
 abbrev pub WritesSome : Change → List ℕ → Type 0
 WritesSome sink text = WritesAll sink text ⊎ WritesFront sink text
+
+-- ---- a disk
+
+-- A disk before and after a call that only reads: whether it is honest, what a read gives, and its counts of faults.
+pub record DiskChange : Type 1 where
+  pub honest : Type 0
+  pub seen : List ℕ
+  pub faults_old : ℕ
+  pub faults_new : ℕ
+
+abbrev pub disk_change : {D : Type 0} → (honest : D → Type 0) → (seen : D → List ℕ) → (faults : D → ℕ) → (old new : D) → DiskChange
+disk_change honest seen faults old new = record { honest = honest old; seen = seen old; faults_old = faults old; faults_new = faults new }
+
+abbrev pub DiskHasFailed : DiskChange → Type 0
+DiskHasFailed d = Rose d.faults_old d.faults_new

@@ -22,8 +22,14 @@ abbrev pub TakesMemory : Refusal → Type 0
 TakesMemory refusals.BadWords = ⊥
 TakesMemory (refusals.BadScenario n why) = Unit {0}
 TakesMemory refusals.ReadFault = ⊥
+TakesMemory refusals.DiskFault = ⊥
+TakesMemory refusals.NotAJournal = ⊥
+TakesMemory (refusals.WrongShape kept asked) = Unit {0}
+TakesMemory (refusals.Damaged at) = Unit {0}
 TakesMemory (refusals.Full held more) = Unit {0}
 TakesMemory refusals.Memory = ⊥
+TakesMemory (refusals.Missing s e known width) = Unit {0}
+TakesMemory refusals.Blank = ⊥
 
 -- A refusal ends at its status with its line, or where there is no memory for that line at `NoMemory`.
 abbrev pub EndsRefused : Refusal → (sink : Change) → Status → Type 0

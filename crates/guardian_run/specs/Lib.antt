@@ -2,7 +2,9 @@ pub mod Statuses
 pub mod Changes
 pub mod Outputs
 pub mod Booking
-pub mod Commands
 pub mod Refusals
+pub mod Outcomes
+pub mod Giving
 pub mod Ends
 pub mod Ending
+pub mod Looking

@@ -1,17 +1,22 @@
--- What each command writes of a scenario.
+-- What each command writes where it is not refused.
 use Rattle.std.specs.Prelude.{ℕ, List, ◌++◌, length}
-use Rattle.std.specs.List.{flat_map, enumerate_from}
+use Rattle.std.specs.List.{flat_map, enumerate_from, range_with_len}
 use Rattle.lg_model.specs.declared.scenario.HostLine.{HostLine}
+use Rattle.lg_model.specs.declared.column.Key.{Key}
+use Rattle.lg_model.specs.declared.column.Dims.{Dims}
 use Rattle.lg_model.specs.Scenario.{Scenario}
 use Rattle.lg_model.specs.Carrying.{picked}
 use Rattle.lg_model.specs.Arriving.{brought, brought_to_all}
-use Rattle.lg_model.specs.Columns.{Column}
-use Rattle.report_text.specs.Report.{report}
+use Rattle.lg_model.specs.Columns.{Cells, Column}
+use Rattle.lg_model.specs.Answer.{Content}
 use Rattle.sketchlet_wire.specs.Spelling.{spelling}
+use Rattle.sumax_sketch.specs.SketchState.{SketchState}
+use Rattle.column_book.specs.Applying.{column_with}
 use Rattle.report_text.specs.Capture.{hex_line, sketchlets_line}
-use Rattle.guardian_words.specs.declared.commands.Command.{Command}
-use Rattle.guardian_words.specs.declared.commands.Command.TheVariants.{Run, Capture}
-use Rattle.run_laws.specs.Truth.{book_of}
+use Rattle.report_text.specs.Columns.{column_line, rebuilt_line, row_line}
+use Rattle.report_text.specs.Report.{columns_line}
+
+-- ---- `capture`
 
 -- The lines of columns that came to the host of that name.
 abbrev pub column_lines : ℕ → List Column → List ℕ
@@ -25,7 +30,18 @@ host_lines w (h, host) = column_lines host.name (brought w (picked w) h)
 abbrev pub capture_of : Scenario → List ℕ
 capture_of w = flat_map (host_lines w) (enumerate_from 0 w.hosts) ++ sketchlets_line (length (brought_to_all w (picked w)))
 
--- `run` writes the report, `capture` the sketchlets.
-abbrev pub output_of : Command → Scenario → List ℕ
-output_of Run w = report (book_of w) w
-output_of Capture w = capture_of w
+-- ---- `list`
+
+-- The line of a pair of a content.
+abbrev pub pair_line : Dims → Key × Cells → List ℕ
+pair_line dims p = column_line (column_with p.0 dims p.1)
+
+-- All columns of a content in the order of their keys, and how many there are.
+abbrev pub list_of : Dims → Content → List ℕ
+list_of dims content = flat_map (pair_line dims) content ++ columns_line (length content)
+
+-- ---- `rebuild`
+
+-- A sketch of the switch of that name and an epoch: its size, and row after row.
+abbrev pub sketch_of : (switch epoch : ℕ) → SketchState → List ℕ
+sketch_of s e sketch = rebuilt_line s e sketch.shape.rows sketch.shape.width ++ flat_map (row_line sketch) (range_with_len 0 sketch.shape.rows)

@@ -1,14 +1,19 @@
 -- The exit status of each end.
 use Rattle.std.specs.Prelude.{ℕ}
 use Rattle.guardian_run.specs.declared.status.Status.{Status}
-use Rattle.guardian_run.specs.declared.status.Status.TheVariants.{Ok, BadWords, BadScenario, ReadFault, WriteFault, Full, NoMemory}
+use Rattle.guardian_run.specs.declared.status.Status.TheVariants.{Ok, BadWords, BadScenario, ReadFault, WriteFault, DiskFault, NotAJournal, WrongShape, Damaged, Full, NoMemory, Missing}
 
--- The numbers between, and above, are kept for ends that the program does not have.
+-- The number 9 is kept for an end that the program does not have yet.
 abbrev pub code_of : Status → ℕ
 code_of Ok = 0
 code_of BadWords = 1
 code_of BadScenario = 2
 code_of ReadFault = 3
 code_of WriteFault = 4
+code_of DiskFault = 5
+code_of NotAJournal = 6
+code_of WrongShape = 7
+code_of Damaged = 8
 code_of Full = 10
 code_of NoMemory = 11
+code_of Missing = 12

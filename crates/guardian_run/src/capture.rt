@@ -1,5 +1,5 @@
 //! The command `capture`: the sketchlets that came to the hosts, as text.
-ghost use Rattle.std.specs.Prelude.{◌≡◌, ◌<◌, ◌≤◌, ◌+◌, ◌++◌, ◌^◌, length, slice_index_or, IfOk, IfErr};
+ghost use Rattle.std.specs.Prelude.{◌≡◌, ◌<◌, ◌≤◌, ◌+◌, ◌++◌, ◌^◌, length, slice_index_or, Ok, Err, IfOk, IfErr};
 ghost use Rattle.lg_model.specs.Matching.{Matched};
 ghost use Rattle.lg_model.specs.Carrying.{picked};
 ghost use Rattle.lg_model.specs.Arriving.{brought};
@@ -7,11 +7,11 @@ ghost use Rattle.lg_model.specs.declared.scenario.HostLine.{HostLine};
 ghost use Rattle.sketchlet_wire.specs.Packing.{IsPacked};
 ghost use Rattle.path_sim.specs.Arrived.{HaveArrived};
 ghost use Rattle.guardian_run.specs.Changes.{change};
-ghost use Rattle.guardian_run.specs.Commands.{HasOutput, IsRefused};
 ghost use Rattle.guardian_run.specs.Outputs.{host_lines, capture_of};
+ghost use Rattle.guardian_run.specs.Outcomes.{Captures};
+ghost use Rattle.guardian_run.specs.Giving.{GivesOfText};
 
 use crate::refusal::Refusal;
-use guardian_words::Command;
 use lg_base::{Memory, Source};
 use lg_model::HostLine;
 use path_sim::{Arrivals, run_own};
@@ -60,12 +60,12 @@ fn capture_lines(alloc: Global, scenario: &Scenario, arrivals: &Arrivals) -> Res
 /// `BadScenario` where the input is no scenario text, `ReadFault` only where the source's count of faults rose in this
 /// call or stands at its last value, `Memory` where no memory was found.
 pub fn capture<S: Source>(alloc: Global, source: &mut S) -> Result<Vec<u8>, Refusal>
-    ensures output { IfOk result (λ text. HasOutput Command.Capture (change S.left S.faults source.old source.new) text.items) }
-    ensures refused { IfErr result (IsRefused Command.Capture (change S.left S.faults source.old source.new)) }
+    ensures output { IfOk result (λ text. GivesOfText Captures (change S.left S.faults source.old source.new) (Ok text.items)) }
+    ensures refused { IfErr result (λ refusal. GivesOfText Captures (change S.left S.faults source.old source.new) (Err refusal)) }
 {
+    runs_are_true();
     let scenario = read(alloc, source)?;
     let arrivals = run_own(alloc, &scenario)?;
     let text = capture_lines(alloc, &scenario, &arrivals)?;
-    runs_are_true();
     Ok(text)
 }

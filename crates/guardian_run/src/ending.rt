@@ -1,12 +1,17 @@
 //! The end of a call: what a command gave becomes bytes and a status (docs/FORMATS.md, Fault lines and exit statuses).
 ghost use Rattle.std.specs.Prelude.{◌≡◌, ◌≤◌, IfOk, IfErr};
 ghost use Rattle.guardian_run.specs.Changes.{change, WritesSome};
-ghost use Rattle.guardian_run.specs.Ending.{EndsWith, EndsRefused};
+ghost use Rattle.report_text.specs.Faults.{no_memory_line as no_memory};
+ghost use Rattle.guardian_run.specs.declared.status.Status.TheVariants.{NoMemory};
+ghost use Rattle.guardian_run.specs.Ending.{EndsWith, EndsWithLine, EndsRefused};
 
 use crate::refusal::Refusal;
 use crate::status::Status;
-use lg_base::{Sink, put_all};
-use report_text::{full_line, no_memory_line, read_fault_line, scenario_line, usage_line};
+use lg_base::{Memory, Sink, put_all};
+use report_text::{
+    blank_line, damaged_line, disk_fault_line, full_line, missing_line, no_memory_line,
+    not_a_journal_line, read_fault_line, scenario_line, shape_line, usage_line,
+};
 use std::alloc::Global;
 
 // Writes an output: `Ok`, or `WriteFault` where the sink fails.
@@ -29,28 +34,54 @@ fn put_fault<K: Sink>(sink: &mut K, line: &[u8], status: Status) -> Status
     status
 }
 
+// Writes a fault line that takes memory and answers its status, or the line and status of want of memory where there was
+// none for it.
+fn put_made<K: Sink>(sink: &mut K, line: Result<Vec<u8>, Memory>, status: Status) -> Status
+    ensures made { IfOk line (λ text. EndsWithLine status text.items (change K.written K.faults sink.old sink.new) result) }
+    ensures starved { IfErr line (λ _. EndsWithLine NoMemory no_memory (change K.written K.faults sink.old sink.new) result) }
+{
+    match line {
+        Ok(text) => put_fault(sink, &text, status),
+        Err(_) => put_fault(sink, no_memory_line(), Status::NoMemory),
+    }
+}
+
 // Writes the line of a refusal, or of want of memory for that line.
 fn put_refusal<K: Sink>(alloc: Global, refusal: Refusal, sink: &mut K) -> Status
     ensures { EndsRefused refusal (change K.written K.faults sink.old sink.new) result }
 {
     match refusal {
         Refusal::BadWords => put_fault(sink, usage_line(), Status::BadWords),
-        Refusal::BadScenario { line, why } => match scenario_line(alloc, line, why) {
-            Ok(text) => put_fault(sink, &text, Status::BadScenario),
-            Err(_) => put_fault(sink, no_memory_line(), Status::NoMemory),
-        },
+        Refusal::BadScenario { line, why } => {
+            put_made(sink, scenario_line(alloc, line, why), Status::BadScenario)
+        }
         Refusal::ReadFault => put_fault(sink, read_fault_line(), Status::ReadFault),
-        Refusal::Full { held, more } => match full_line(alloc, held, more) {
-            Ok(text) => put_fault(sink, &text, Status::Full),
-            Err(_) => put_fault(sink, no_memory_line(), Status::NoMemory),
-        },
+        Refusal::DiskFault => put_fault(sink, disk_fault_line(), Status::DiskFault),
+        Refusal::NotAJournal => put_fault(sink, not_a_journal_line(), Status::NotAJournal),
+        Refusal::WrongShape { kept, asked } => {
+            put_made(sink, shape_line(alloc, &kept, &asked), Status::WrongShape)
+        }
+        Refusal::Damaged { at } => put_made(sink, damaged_line(alloc, at), Status::Damaged),
+        Refusal::Full { held, more } => {
+            put_made(sink, full_line(alloc, held, more), Status::Full)
+        }
+        Refusal::Missing {
+            switch,
+            epoch,
+            known,
+            width,
+        } => put_made(
+            sink,
+            missing_line(alloc, switch, epoch, known, width),
+            Status::Missing,
+        ),
+        Refusal::Blank => put_fault(sink, blank_line(), Status::Missing),
         Refusal::Memory => put_fault(sink, no_memory_line(), Status::NoMemory),
     }
 }
 
 /// Writes what a command gave, and answers the status: all of its output, or the line of why it has none. Memory is
-/// taken for two lines alone, that of a scenario text that is refused and that of a book that has no room; where there
-/// is none, the end is that of want of memory.
+/// taken for the lines alone that have a number in them; where there is none, the end is that of want of memory.
 pub fn end<K: Sink>(alloc: Global, given: Result<Vec<u8>, Refusal>, sink: &mut K) -> Status
     ensures output { IfOk given (λ text. EndsWith text.items (change K.written K.faults sink.old sink.new) result) }
     ensures refused { IfErr given (λ refusal. EndsRefused refusal (change K.written K.faults sink.old sink.new) result) }

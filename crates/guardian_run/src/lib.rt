@@ -1,19 +1,25 @@
-//! The top call: what the words ask for, of a scenario from a source, told into a sink.
+//! The top call: what the words ask for, of a scenario from a source and a book on a disk, told into a sink.
 //!
 //! | Item | What it is |
 //! |---|---|
 //! | [`guardian`] | does what the words say |
-//! | [`guardian_read`] | does it for the words that only read |
+//! | [`guardian_read`] | does it for the words that never write to the disk |
 //! | [`Status`] | how it ended |
+//! | [`outcomes_are_one`] | the law: what a call comes to is one output or one refusal |
 //!
 //! A command is a file: it reads what it needs and gives its output, or a refusal that carries what its line says. The
 //! end of the call turns either into bytes and a status.
 #![tactic(auto)]
 
+mod ask;
 mod booking;
 mod capture;
 mod ending;
+mod list;
+mod looking;
+mod rebuild;
 mod refusal;
+mod reporting;
 mod run;
 mod status;
 #[cfg(test)]
@@ -21,4 +27,4 @@ mod tests;
 mod top;
 
 pub use status::Status;
-pub use top::{guardian, guardian_read};
+pub use top::{guardian, guardian_read, outcomes_are_one};

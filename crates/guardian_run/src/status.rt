@@ -15,10 +15,20 @@ pub enum Status {
     ReadFault,
     /// All was well, but the sink failed.
     WriteFault,
-    /// The book of the run has no room for the columns that came to the hosts.
+    /// The disk failed.
+    DiskFault,
+    /// The book's file is neither blank nor a journal.
+    NotAJournal,
+    /// The book's file is of another shape than the scenario.
+    WrongShape,
+    /// The book's file is damaged.
+    Damaged,
+    /// A book has no room for the columns that came to the hosts, or for those of its file.
     Full,
     /// No memory was found.
     NoMemory,
+    /// Not all columns of a sketch are in the book.
+    Missing,
 }
 
 impl Status {
@@ -32,8 +42,13 @@ impl Status {
             Status::BadScenario => 2,
             Status::ReadFault => 3,
             Status::WriteFault => 4,
+            Status::DiskFault => 5,
+            Status::NotAJournal => 6,
+            Status::WrongShape => 7,
+            Status::Damaged => 8,
             Status::Full => 10,
             Status::NoMemory => 11,
+            Status::Missing => 12,
         }
     }
 }

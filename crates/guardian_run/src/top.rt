@@ -1,63 +1,87 @@
 //! The top calls.
+ghost use Rattle.std.specs.Prelude.{◌≡◌};
 ghost use Rattle.guardian_words.specs.Words.{asked};
-ghost use Rattle.guardian_run.specs.Changes.{change};
-ghost use Rattle.guardian_run.specs.Commands.{reading_command};
+ghost use Rattle.book_journal.specs.Crashes.{OnlyReads};
+ghost use Rattle.guardian_run.specs.Changes.{change, disk_change};
+ghost use Rattle.guardian_run.specs.Outcomes.{reading_command, LawOfOutcomes};
 ghost use Rattle.guardian_run.specs.Ends.{Ends};
 
+use crate::ask::ask;
 use crate::capture::capture;
 use crate::ending::end;
+use crate::list::list;
+use crate::rebuild::rebuild;
 use crate::refusal::Refusal;
 use crate::run::run;
 use crate::status::Status;
 use guardian_words::{Command, command};
 use lg_base::{Sink, Source};
+use lg_disk::Disk;
 use std::alloc::Global;
 
-/// Does what the words say, if it is a command that only reads: `capture`.
+/// The law of outcomes: what the words, the input and the book's file come to is one output, or one refusal
+/// (docs/DEFINITIONS.md, Ends).
+pub fn outcomes_are_one()
+    ensures { LawOfOutcomes }
+{}
+
+/// Does what the words say, if it is a command that never writes to the disk: `ask`, `list`, `rebuild` and `capture`.
 ///
-/// `BadWords` exactly where the words are none. The other answers are those of [`guardian`].
-pub fn guardian_read<S: Source, K: Sink>(
+/// `BadWords` exactly where the words are none of these. The other answers are those of [`guardian`]. At each end a read of
+/// the disk gives what it gave before, and a crash leaves what it might have left.
+pub fn guardian_read<S: Source, K: Sink, D: Disk>(
     alloc: Global,
     words: &[String],
     source: &mut S,
     sink: &mut K,
+    disk: &mut D,
 ) -> Status
-    ensures { Ends (reading_command (asked words.now)) (change S.left S.faults source.old source.new)
-        (change K.written K.faults sink.old sink.new) result }
+    ensures ends { Ends (reading_command (asked words.now)) (change S.left S.faults source.old source.new)
+        (change K.written K.faults sink.old sink.new) (disk_change D.honest D.seen D.faults disk.old disk.new) result }
+    ensures reads { OnlyReads D.honest D.seen D.images D.moment D.since disk.old disk.new }
 {
     match command(words) {
+        Some(Command::Ask) => end(alloc, ask(alloc, source, disk), sink),
+        Some(Command::List) => end(alloc, list(alloc, disk), sink),
+        Some(Command::Rebuild { switch, epoch }) => {
+            end(alloc, rebuild(alloc, disk, switch, epoch), sink)
+        }
         Some(Command::Capture) => end(alloc, capture(alloc, source), sink),
         Some(Command::Run) => end(alloc, Err(Refusal::BadWords), sink),
         None => end(alloc, Err(Refusal::BadWords), sink),
     }
 }
 
-/// Does what the words say: `run` reads a scenario from the source, runs its network and writes the report into the
-/// sink; `capture` writes the sketchlets that came to the hosts. How it ends is the record `Ends`
-/// (docs/DEFINITIONS.md, Ends).
+/// Does what the words say: `run` reads a scenario from the source, runs its network and writes the report into the sink;
+/// `ask` reads a scenario and writes the report on the book of the disk's file, `list` all columns of that book, and
+/// `rebuild` a sketch of them; `capture` writes the sketchlets that came to the hosts. How it ends is the record `Ends`
+/// (docs/DEFINITIONS.md, Ends). No command writes to the disk yet; it is handed back.
 ///
 /// At `Ok` the output was written, at `WriteFault` a front of it, at every other status the fault line, or a front of it
-/// where the sink failed. What is written of the network is true: what packets carried is allowed, each column that came
-/// to a host is the one its switch froze, no number is below the true value, `unknown` comes exactly where no column of
-/// the flow arrived, and `saturated` exactly where the least known counter is the counter's last value.
+/// where the sink failed. What is written of a network is true: of the scenario's own run, and of a book that agrees with
+/// the scenario.
 ///
-/// `BadWords` exactly where the words are no command; nothing is read then. `BadScenario` exactly where they are, the
-/// status is not `ReadFault` and not want of memory, and the input is no scenario text. `ReadFault` and `WriteFault` only
-/// where the source's or the sink's count of faults rose in this call or stands at its last value. `Full` exactly where
-/// `run` is asked for, the status is not `ReadFault` and not want of memory, the input is a scenario text, and a book has
-/// no room for the columns that came to the hosts: their keys are more than 262,144. `NoMemory` where no memory was found.
-pub fn guardian<S: Source, K: Sink>(
+/// `BadWords` exactly where the words are no command; nothing is read then. Unless `ReadFault`, `DiskFault` or `NoMemory`
+/// comes, each other status comes exactly where its cause is there, the first in this order: `BadScenario` where a scenario
+/// is read and the input is no scenario text; `NotAJournal`, `WrongShape`, `Damaged` and `Full` where the book is looked at
+/// and its file has that fault first; `Missing` where a sketch is to be rebuilt and fewer columns than its width are in the
+/// book, or the book is blank; `Full` where `run` finds more columns at the hosts than the 262,144 of a book. `ReadFault`,
+/// `WriteFault` and `DiskFault` come only where the source's, the sink's or the disk's count of faults rose in this call or
+/// stands at its last value, `NoMemory` where no memory was found.
+pub fn guardian<S: Source, K: Sink, D: Disk>(
     alloc: Global,
     words: &[String],
     source: &mut S,
     sink: &mut K,
-) -> Status
-    ensures { Ends (asked words.now) (change S.left S.faults source.old source.new)
-        (change K.written K.faults sink.old sink.new) result }
+    mut disk: D,
+) -> (Status, D)
+    ensures ends { Ends (asked words.now) (change S.left S.faults source.old source.new)
+        (change K.written K.faults sink.old sink.new) (disk_change D.honest D.seen D.faults disk result.1) result.0 }
+    ensures reads { OnlyReads D.honest D.seen D.images D.moment D.since disk result.1 }
 {
-    match command(words) {
+    let status = match command(words) {
         Some(Command::Run) => end(alloc, run(alloc, source), sink),
-        Some(Command::Capture) => end(alloc, capture(alloc, source), sink),
-        None => end(alloc, Err(Refusal::BadWords), sink),
-    }
+        _ => guardian_read(alloc, words, source, sink, &mut disk),
+    };
+    (status, disk)
 }

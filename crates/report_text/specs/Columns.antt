@@ -16,6 +16,11 @@ unfoldable pub column_line : Column → List ℕ
 column_line c = line ((field (codes "column ") c.key.switch ++ field (codes " ") c.key.epoch ++ field (codes " ") c.key.index)
     ++ flat_map bucket_text c.cells.buckets)
 
+-- `rebuilt switch S epoch E rows R width W`
+unfoldable pub rebuilt_line : (switch epoch rows width : ℕ) → List ℕ
+rebuilt_line switch epoch rows width = line ((field (codes "rebuilt switch ") switch ++ field (codes " epoch ") epoch)
+    ++ (field (codes " rows ") rows ++ field (codes " width ") width))
+
 -- the buckets of a row of a sketch at the first n indexes
 abbrev pub row_text : SketchState → (row n : ℕ) → List ℕ
 row_text s row n = flat_map bucket_text (map (λ j. bucket_at s.table row j) (range_with_len 0 n))

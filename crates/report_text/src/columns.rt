@@ -5,9 +5,10 @@ ghost use Rattle.text_out.specs.Appending.{AppendsText};
 ghost use Rattle.text_out.specs.Words.{field};
 ghost use Rattle.report_text.specs.Columns.{bucket_text, row_text};
 ghost use Rattle.report_text.specs.Columns.{column_line as column_line_of, row_line as row_line_of, acked_line as acked_line_of};
+ghost use Rattle.report_text.specs.Columns.{rebuilt_line as rebuilt_line_of};
 
 use lg_base::Memory;
-use lg_model::{Bucket, Key};
+use lg_model::{Bucket, Dims, Key};
 use sketchlet_wire::Column;
 use std::alloc::Global;
 use sumax_sketch::Sketch;
@@ -73,6 +74,43 @@ pub fn column_line(alloc: Global, column: &Column) -> Result<Vec<u8>, Memory>
     let mut line = Vec::new(alloc);
     put_column_line(&mut line, column)?;
     Ok(line)
+}
+
+// `rebuilt switch S epoch E`
+fn put_sketch(out: &mut Vec<u8>, switch: u16, epoch: u32) -> Result<(), Memory>
+    ensures { AppendsText result out.old.items out.new.items
+        (field (codes "rebuilt switch ") switch ++ field (codes " epoch ") epoch) }
+{
+    put_field(out, b"rebuilt switch ", u64::from(switch))?;
+    put_field(out, b" epoch ", u64::from(epoch))?;
+    Ok(())
+}
+
+// ` rows R width W`
+fn put_size(out: &mut Vec<u8>, dims: Dims) -> Result<(), Memory>
+    ensures { AppendsText result out.old.items out.new.items
+        (field (codes " rows ") dims.rows ++ field (codes " width ") dims.width) }
+{
+    put_field(out, b" rows ", u64::from(dims.rows))?;
+    put_field(out, b" width ", u64::from(dims.width))?;
+    Ok(())
+}
+
+/// Appends `rebuilt switch S epoch E rows R width W` and the byte 10: the first line of a rebuilt sketch, with its size. At
+/// `Memory` what stood before is kept, and a part of the line may stand after it (docs/FORMATS.md, Output lines).
+#[tactic(auto, using(text_out::proofs::Keeping::keeps_itself, text_out::proofs::Keeping::keeps_after), unfolding(crate::specs::Columns::rebuilt_line))]
+pub fn put_rebuilt_line(
+    out: &mut Vec<u8>,
+    switch: u16,
+    epoch: u32,
+    dims: Dims,
+) -> Result<(), Memory>
+    ensures { AppendsText result out.old.items out.new.items (rebuilt_line_of switch epoch dims.rows dims.width) }
+{
+    put_sketch(out, switch, epoch)?;
+    put_size(out, dims)?;
+    put_text(out, b"\n")?;
+    Ok(())
 }
 
 /// Appends `row I`, then of each index its sum in bytes and its maximum in microseconds, and the byte 10. The row is below

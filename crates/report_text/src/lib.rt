@@ -8,10 +8,13 @@
 //! | [`hex_line`], [`put_hex_line`] | the line of a sketchlet |
 //! | [`column_line`], [`put_column_line`] | the line of a column |
 //! | [`row_line`], [`put_row_line`] | the line of a row of a sketch |
+//! | [`put_rebuilt_line`] | the first line of a rebuilt sketch |
 //! | [`acked_line`], [`put_acked_line`] | the line of an acknowledged upload |
 //! | [`scenario_line`], [`put_scenario_line`] | the line of a scenario text that is refused |
 //! | [`full_line`], [`put_full_line`] | the line of a book that has no room |
-//! | [`usage_line`], [`read_fault_line`], [`no_memory_line`] | the fault lines that never change |
+//! | [`shape_line`], [`damaged_line`] | the lines of a book file that is of another shape, or is damaged |
+//! | [`missing_line`], [`blank_line`] | the lines of a sketch that cannot be rebuilt |
+//! | [`usage_line`], [`read_fault_line`], [`disk_fault_line`], [`not_a_journal_line`], [`no_memory_line`] | fault lines that never change |
 //! | [`put_text`], [`put_number`] | what other lines are written with |
 //!
 //! A `put` appends to the bytes of a list. Every line ends with the byte 10.
@@ -29,10 +32,12 @@ mod tests;
 pub use answers::{answer_line, put_answer_line, put_columns_line};
 pub use captures::{hex_line, put_hex_line, put_sketchlets_line};
 pub use columns::{
-    acked_line, column_line, put_acked_line, put_column_line, put_row_line, row_line,
+    acked_line, column_line, put_acked_line, put_column_line, put_rebuilt_line, put_row_line,
+    row_line,
 };
 pub use faults::{
-    full_line, no_memory_line, put_full_line, put_scenario_line, read_fault_line, scenario_line,
-    usage_line,
+    blank_line, damaged_line, disk_fault_line, full_line, missing_line, no_memory_line,
+    not_a_journal_line, put_full_line, put_scenario_line, read_fault_line, scenario_line,
+    shape_line, usage_line,
 };
 pub use text_out::{put_number, put_text};

@@ -94,6 +94,15 @@ fn fault_lines(rt: HostRuntime) -> Result<(), Fail> {
         ),
         (read_fault_line(), b"guardian: read fault\n".as_slice()),
         (no_memory_line(), b"guardian: no memory\n".as_slice()),
+        (disk_fault_line(), b"guardian: disk fault\n".as_slice()),
+        (
+            not_a_journal_line(),
+            b"guardian: not a journal\n".as_slice(),
+        ),
+        (
+            blank_line(),
+            b"guardian: rebuild: the book is blank\n".as_slice(),
+        ),
     ] {
         assert_eq!(rt; line, want);
     }
@@ -118,5 +127,31 @@ fn fault_lines(rt: HostRuntime) -> Result<(), Fail> {
         out.as_slice(),
         b"guardian: full with 0 and 1 more\n".as_slice()
     );
+    Ok(())
+}
+
+#[test]
+fn lines_of_a_book_file(rt: HostRuntime) -> Result<(), Fail> {
+    let kept = Shape::new(2, 2, Hash::Ports).ok_or("no shape")?;
+    let asked = Shape::new(8, 4096, Hash::Seed(18446744073709551615)).ok_or("no shape")?;
+    for (line, want) in [
+        (
+            shape_line(rt.alloc(), &kept, &asked)?,
+            b"guardian: shape 2 2 ports in the book, 8 4096 seed 18446744073709551615 asked\n".as_slice(),
+        ),
+        (
+            damaged_line(rt.alloc(), 45)?,
+            b"guardian: damaged at 45\n".as_slice(),
+        ),
+        (
+            missing_line(rt.alloc(), 1, 0, 1, 2)?,
+            b"guardian: rebuild: switch 1 epoch 0 has 1 of 2 columns\n".as_slice(),
+        ),
+    ] {
+        assert_eq!(rt; line.as_slice(), want);
+    }
+    let mut out = Vec::new(rt.alloc());
+    put_rebuilt_line(&mut out, 65535, 4294967295, Dims { rows: 2, width: 4096 })?;
+    assert_eq!(rt; out.as_slice(), b"rebuilt switch 65535 epoch 4294967295 rows 2 width 4096\n".as_slice());
     Ok(())
 }
