@@ -50,11 +50,11 @@ pub(crate) fn shape_of(head: &[u8]) -> Option<Shape>
     ensures { MatchOption result ((shape : model.Shape) → FitsShape shape → head.now ≡ header shape → ⊥)
         (λ shape. FitsShape shape × (head.now ≡ header shape)) }
 {
-    if head[1..5] != [0x4C, 0x47, 0x42, 0x31] {
+    if u32::from_be_bytes([head[1], head[2], head[3], head[4]]) != 0x4C47_4231 {
         return None;
     }
     match take_shape(&head[5..], WireFault::Short, WireFault::Short) {
-        Ok((shape, _)) => Some(shape),
+        Ok(found) => Some(found.0),
         Err(_) => None,
     }
 }

@@ -1,29 +1,38 @@
 //! Reading a body.
-ghost use Rattle.std.specs.Prelude.{◌≡◌, ◌≤◌, ◌++◌, ℕ, List, length, slice_index, IfOk, MatchOption, MatchResult};
+ghost use Rattle.std.specs.Prelude.{◌≡◌, ◌≤◌, ◌++◌, ℕ, List, length, slice_index, nat_lt, IfOk, MatchOption, None, Some, if◌then◌else◌};
 ghost use Rattle.std.specs.List.{flat_map, AllByRecursion, IsDistinct};
 ghost use Rattle.lg_model.specs.Columns as model;
 ghost use Rattle.lg_model.specs.declared.limits.TheConstants.{MOST_UPLOAD_COLUMNS};
-ghost use Rattle.sketchlet_wire.specs.Spelling.{IsDims};
+ghost use Rattle.sketchlet_wire.specs.Spelling.{IsDims, shown};
+ghost use Rattle.byte_fields.specs.Reading.{Gives};
+ghost use Rattle.book_file.specs.Reading.{column_at};
 ghost use Rattle.sketchlet_wire.specs.Uploads.{IsFull, UploadData, same_column_key};
 ghost use Rattle.column_book.specs.Kept.{keys_of};
 ghost use Rattle.book_file.specs.File.{IsColumnOf, IsRecord, body, body_len, column_bytes};
 ghost use Rattle.book_file.specs.Walk.{HasCount};
 
 use lg_base::Memory;
-use lg_model::Dims;
+use lg_model::{Bucket, Dims, Key};
 use sketchlet_wire::{Column, Upload, WireFault, take_cells, take_key};
 use std::alloc::Global;
 
-// The column at the front, and the bytes after it. A fault exactly where no column of that size stands there.
+// The column of these parts, if its index is below the width.
+fn column_in(dims: Dims, key: Key, cells: [Bucket; 8]) -> Option<Column>
+    requires { IsDims dims }
+    ensures { result ≡ (if nat_lt key.index dims.width then Some (shown key dims cells) else None) }
+{
+    Column::new(key, dims, cells)
+}
+
+// The column at the front, and the bytes after it. The fault is none that a file tells.
+#[tactic(auto, unfolding(crate::specs::Reading::column_at))]
 fn column_of(dims: Dims, bytes: &[u8]) -> Result<(Column, &[u8]), WireFault>
     requires { IsDims dims }
-    ensures { MatchResult result
-        (λ x. IsColumnOf dims x.0 × (bytes.now ≡ column_bytes x.0 ++ x.1.now))
-        (λ fault. (c : model.Column) (rest : List ℕ) → IsColumnOf dims c → bytes.now ≡ column_bytes c ++ rest → ⊥) }
+    ensures { Gives (λ x. (x.0, x.1.now)) result (column_at dims bytes.now) }
 {
     let (key, rest) = take_key(bytes, WireFault::Short)?;
     let (cells, rest) = take_cells(dims.rows, rest, WireFault::Short)?;
-    match Column::new(key, dims, cells) {
+    match column_in(dims, key, cells) {
         Some(column) => Ok((column, rest)),
         None => Err(WireFault::BadIndex { index: key.index }),
     }
@@ -41,11 +50,11 @@ fn columns_of(alloc: Global, dims: Dims, count: u8, bytes: &[u8]) -> Result<Opti
     let mut columns = Vec::with_capacity(alloc, usize::from(count))?;
     let mut left = bytes;
     for _ in 0..count {
-        let Ok((column, rest)) = column_of(dims, left) else {
+        let Ok(found) = column_of(dims, left) else {
             return Ok(None);
         };
-        columns.push(column)?;
-        left = rest;
+        columns.push(found.0)?;
+        left = found.1;
     }
     Ok(Some(columns))
 }

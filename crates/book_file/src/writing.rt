@@ -16,15 +16,16 @@ use std::alloc::Global;
 fn put_column(out: &mut Vec<u8>, column: &Column) -> Result<(), Memory>
     ensures { OnOk result (out.new.items ≡ out.old.items ++ column_bytes column.now) }
 {
-    let mut bytes = [0; 56];
-    put_key(&mut bytes, column.key());
-    let len = 8 + put_cells(&mut bytes[8..], column);
-    out.extend_from_slice(&bytes[..len])?;
+    let mut key = [0; 8];
+    put_key(&mut key, column.key());
+    out.extend_from_slice(&key)?;
+    let mut cells = [0; 48];
+    let len = put_cells(&mut cells, column);
+    out.extend_from_slice(&cells[..len])?;
     Ok(())
 }
 
 // The 7 bytes before the columns.
-#[tactic(auto)]
 fn lead_of(host: u16, seq: u32, count: u8) -> [u8; 7]
     ensures { result ≡ to_be_bytes w16 host ++ (to_be_bytes w32 seq ++ count ∷ []) }
 {
