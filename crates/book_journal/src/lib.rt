@@ -6,5 +6,6 @@
 #![tactic(auto)]
 
 mod applied;
+mod synced;
 
 pub use applied::{Applied, ApplyFault};

@@ -1,0 +1,3 @@
+mod CrashLemmas
+mod AppendLemmas
+mod ReadLemmas
