@@ -1,1 +1,3 @@
 pub mod Applied
+pub mod Crashes
+pub mod Looking

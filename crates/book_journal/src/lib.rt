@@ -2,9 +2,16 @@
 //!
 //! | Item | What it is |
 //! |---|---|
+//! | [`look`] | the book of a file, which is only read |
 //! | [`Applied`], [`ApplyFault`] | what came of an upload |
+//! | [`OpenFault`] | why a file isn't opened |
 #![tactic(auto)]
 
 mod applied;
+mod fault;
+mod looking;
+mod synced;
 
 pub use applied::{Applied, ApplyFault};
+pub use book_file::OpenFault;
+pub use looking::look;

@@ -1,0 +1,5 @@
+mod CrashLemmas
+mod AppendLemmas
+mod ReadLemmas
+mod PieceLemmas
+mod LookLemmas
