@@ -40,12 +40,7 @@ fn rebuilt(alloc: Global, book: &Book, switch: u16, epoch: u32) -> Result<Sketch
 }
 
 // The lines of a sketch.
-fn sketch_lines(
-    alloc: Global,
-    switch: u16,
-    epoch: u32,
-    sketch: &Sketch,
-) -> Result<Vec<u8>, Memory>
+fn sketch_lines(alloc: Global, switch: u16, epoch: u32, sketch: &Sketch) -> Result<Vec<u8>, Memory>
     ensures { IfOk result (λ text. text.items ≡ sketch_of switch epoch sketch.now) }
 {
     let mut text = Vec::new(alloc);

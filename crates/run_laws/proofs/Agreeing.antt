@@ -87,7 +87,7 @@ true_in w m q whole all asked =
 -- ---- rebuilt sketches
 
 -- tables of one shape with the same buckets are one
-one_table : (shape : Shape) (a b : Table) → IsTable shape a → IsTable shape b →
+pub one_table : (shape : Shape) (a b : Table) → IsTable shape a → IsTable shape b →
     ((i j : ℕ) → i < shape.rows → j < shape.width → bucket_at a i j ≡ bucket_at b i j) → a ≡ b
 one_table shape a b this that same = ext_get_or [] a b (this.rows ∙ sym that.rows) (λ i inside.
     let low : i < shape.rows = omega (arith, inside, this.rows) in
