@@ -1,11 +1,15 @@
-//! The program `guardian`: the top call over the standard streams.
+//! The program `guardian`: the top call over the standard streams and the file `guardian.book`.
 #![tactic(auto)]
 
 use guardian_run::guardian;
 use lg_base::{StdSink, StdSource};
+use lg_disk::FileDisk;
 use std::process::ExitCode;
 use std::rt::Env;
 use std::{env, io};
+
+// The file of the book, in the folder in which the program runs.
+const BOOK: &str = "guardian.book";
 
 // The exit status where the words cannot be had, as for want of memory.
 const NO_WORDS: u8 = 11;
@@ -25,6 +29,7 @@ fn main(rt: HostRuntime) -> ExitCode {
     };
     let mut source = StdSource::new(rt.reader());
     let mut sink = StdSink::new(io::writer(&rt));
-    let status = guardian(rt.alloc(), &words, &mut source, &mut sink);
+    let disk = FileDisk::at(&rt, BOOK);
+    let (status, _) = guardian(rt.alloc(), &words, &mut source, &mut sink, disk);
     ExitCode::from(status.code())
 }
