@@ -1,0 +1,15 @@
+pub mod Bytes
+pub mod Apart
+pub mod Bodies
+pub mod Heads
+pub mod Columns
+pub mod Readings
+pub mod Adding
+pub mod Stepping
+pub mod Feeding
+pub mod Endings
+pub mod Law
+pub mod OneAnswer
+pub mod Complete
+pub mod Closings
+pub mod Masks

@@ -1,0 +1,5 @@
+pub mod File
+pub mod Found
+pub mod Walk
+pub mod Reading
+pub mod Laws
