@@ -49,7 +49,7 @@ addable shape room rs u sized new some le =
     let three : full room held more ≡ None = ap (λ (b : Bool). if b then Some (Full held more) else None) fits in
     let last : Result (List Column) BookFault = Ok (new_columns m cs) in
     let decided : decide shape room rs u ≡ last =
-        ap (λ (o : Option BookFault). or_fault o (or_fault (first_fault (conflict dims m) cs) (or_fault (full room held more) last))) one
-        ∙ ap (λ (o : Option BookFault). or_fault o (or_fault (full room held more) last)) two
-        ∙ ap (λ (o : Option BookFault). or_fault o last) three in
+    ap (λ (o : Option BookFault). or_fault o (or_fault (first_fault (conflict dims m) cs) (or_fault (full room held more) last))) one
+    ∙ ap (λ (o : Option BookFault). or_fault o (or_fault (full room held more) last)) two
+    ∙ ap (λ (o : Option BookFault). or_fault o last) three in
     subst (λ (d : Result (List Column) BookFault). IsOkAnd (masked (mask_of (map (is_new m) cs)) d) (λ k. 0 < k)) (sym decided) (some_new (is_new m) cs some new)

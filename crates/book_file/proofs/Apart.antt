@@ -127,15 +127,15 @@ AreNew old cs = AllByRecursion (λ c. is_new (content_of old) c ≡ true) cs
 others_from_new : (old cs : List Column) → AreNew old cs → AreOthers (keys_of old) (keys_of cs)
 others_from_new old cs new = transposed (λ k q. same_column_key k q ≡ false) (keys_of old) (keys_of cs)
     (all_keys (λ q. AllByRecursion (λ k. same_column_key k q ≡ false) (keys_of old)) cs
-      (all_map (λ (c : Column). is_new (content_of old) c ≡ true) (λ (c : Column). AllByRecursion (λ k. same_column_key k c.key ≡ false) (keys_of old))
-        (λ c h. none_from c.key (keys_of old) (sym (new_is old c.key) ∙ h)) cs new))
+    (all_map (λ (c : Column). is_new (content_of old) c ≡ true) (λ (c : Column). AllByRecursion (λ k. same_column_key k c.key ≡ false) (keys_of old))
+    (λ c h. none_from c.key (keys_of old) (sym (new_is old c.key) ∙ h)) cs new))
 
 new_from_others : (old cs : List Column) → AreOthers (keys_of old) (keys_of cs) → AreNew old cs
 new_from_others old cs others =
     all_map (λ (c : Column). AllByRecursion (λ k. same_column_key k c.key ≡ false) (keys_of old)) (λ (c : Column). is_new (content_of old) c ≡ true)
-      (λ c h. new_is old c.key ∙ from_none c.key (keys_of old) h) cs
-      (of_keys (λ q. AllByRecursion (λ k. same_column_key k q ≡ false) (keys_of old)) cs
-        (transposed (λ q k. same_column_key k q ≡ false) (keys_of cs) (keys_of old) others))
+    (λ c h. new_is old c.key ∙ from_none c.key (keys_of old) h) cs
+    (of_keys (λ q. AllByRecursion (λ k. same_column_key k q ≡ false) (keys_of old)) cs
+    (transposed (λ q k. same_column_key k q ≡ false) (keys_of cs) (keys_of old) others))
 
 pub apart_join : (old cs : List Column) → IsDistinct same_column_key (keys_of old) → IsDistinct same_column_key (keys_of cs) → AreNew old cs → IsDistinct same_column_key (keys_of (old ++ cs))
 apart_join old cs a b new =

@@ -37,7 +37,7 @@ same_columns dims [] (d ∷ ds) x y long fc fd same = absurd (omega (arith, long
 same_columns dims (c ∷ cs) [] x y long fc fd same = absurd (omega (arith, long))
 same_columns dims (c ∷ cs) (d ∷ ds) x y long fc fd same =
     let first = same_column dims c d (flat_map column_bytes cs ++ x) (flat_map column_bytes ds ++ y) fc.0 fd.0
-        (sym (append_assoc (column_bytes c) (flat_map column_bytes cs) x) ∙ same ∙ append_assoc (column_bytes d) (flat_map column_bytes ds) y) in
+    (sym (append_assoc (column_bytes c) (flat_map column_bytes cs) x) ∙ same ∙ append_assoc (column_bytes d) (flat_map column_bytes ds) y) in
     let size : length cs ≡ length ds = omega (arith, long) in
     let rest = same_columns dims cs ds x y size fc.1 fd.1 first.1 in
     ((λ i. first.0 i ∷ rest.0 i), rest.1)

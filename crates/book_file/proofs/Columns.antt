@@ -32,9 +32,9 @@ pub column_there : (dims : Dims) (bytes : List ℕ) (c : Column) (rest : List �
 unfolding column_at
 column_there dims bytes c rest is spelled =
     let key : key_at Short bytes ≡ Ok (c.key, cells_bytes c.cells ++ rest) =
-        ap (key_at Short) (spelled ∙ append_assoc (column_key_bytes c.key) (cells_bytes c.cells) rest) ∙ key_again Short c.key (cells_bytes c.cells ++ rest) (key_fits dims c is) in
+    ap (key_at Short) (spelled ∙ append_assoc (column_key_bytes c.key) (cells_bytes c.cells) rest) ∙ key_again Short c.key (cells_bytes c.cells ++ rest) (key_fits dims c is) in
     let cells : cells_at Short dims.rows (cells_bytes c.cells ++ rest) ≡ Ok (c.cells, rest) =
-        ap (λ (n : ℕ). cells_at Short n (cells_bytes c.cells ++ rest)) (sym (ap (λ (d : Dims). d.rows) is.sized)) ∙ cells_again Short c.dims.rows c.cells rest is.column.cells in
+    ap (λ (n : ℕ). cells_at Short n (cells_bytes c.cells ++ rest)) (sym (ap (λ (d : Dims). d.rows) is.sized)) ∙ cells_again Short c.dims.rows c.cells rest is.column.cells in
     let inside : ltb c.key.index dims.width ≡ true = lt-ltb c.key.index dims.width (omega (arith, is.column.index, ap (λ (d : Dims). d.width) is.sized)) in
     rw (key, cells, inside) (λ i. Ok (record { key = c.key; dims = sym is.sized i; cells = c.cells }, rest))
 
@@ -108,9 +108,9 @@ no_columns dims read bytes left count all so_far lt none cs rest long each is =
     let n = length read in
     let parts = all_drop (IsColumnOf dims) n cs each in
     let split : flat_map column_bytes cs ≡ flat_map column_bytes (take n cs) ++ flat_map column_bytes (drop n cs) =
-        ap (λ (l : List Column). flat_map column_bytes l) (sym (take-append-drop n cs)) ∙ flat_map-append column_bytes (take n cs) (drop n cs) in
+    ap (λ (l : List Column). flat_map column_bytes l) (sym (take-append-drop n cs)) ∙ flat_map-append column_bytes (take n cs) (drop n cs) in
     let same : flat_map column_bytes read ++ left ≡ flat_map column_bytes (take n cs) ++ (flat_map column_bytes (drop n cs) ++ rest) =
-        sym so_far ∙ is ∙ ap (λ (l : List ℕ). l ++ rest) split ∙ append_assoc (flat_map column_bytes (take n cs)) (flat_map column_bytes (drop n cs)) rest in
+    sym so_far ∙ is ∙ ap (λ (l : List ℕ). l ++ rest) split ∙ append_assoc (flat_map column_bytes (take n cs)) (flat_map column_bytes (drop n cs)) rest in
     let one = same_columns dims read (take n cs) left (flat_map column_bytes (drop n cs) ++ rest) (omega (arith, length-take n cs, long, lt)) all parts.0 same in
     first (drop n cs) (omega (arith, length-drop n cs, long, lt)) parts.1 one.1
   where

@@ -78,13 +78,13 @@ pub finds_whole : (w : WalkState) (result : Result Found OpenFault) → ((a : Re
 finds_whole w result ended going all read more h size =
     elim (cases_Bool (is_ended w.stage)) [
       | inl t ↦
-        let a = ended_is w.stage t in
-        let decides = subst (λ (s : Stage). Waits w.asked w.room w.len w.gate s w.rest read) a.1 h.stands.waits in
-        subst (λ (r : Result Found OpenFault). Finds w.asked w.room (read ++ more) r) (sym (ended a.0 a.1)) (decides more size)
+          let a = ended_is w.stage t in
+          let decides = subst (λ (s : Stage). Waits w.asked w.room w.len w.gate s w.rest read) a.1 h.stands.waits in
+          subst (λ (r : Result Found OpenFault). Finds w.asked w.room (read ++ more) r) (sym (ended a.0 a.1)) (decides more size)
       | inr f ↦
-        let whole : w.fed ≡ w.len = ⊎_elim (λ e. e) (λ t. absurd (both_ways (is_ended w.stage) f t)) all in
-        let none : more ≡ [] = nil_from_length more (omega (arith, size, length-append read more, h.fed, whole)) in
-        subst (λ (l : List ℕ). Finds w.asked w.room l result) (sym (ap (λ (l : List ℕ). read ++ l) none ∙ append-nil read)) (going w.asked w.room w.len read h.stands h.fed f)
+          let whole : w.fed ≡ w.len = ⊎_elim (λ e. e) (λ t. absurd (both_ways (is_ended w.stage) f t)) all in
+          let none : more ≡ [] = nil_from_length more (omega (arith, size, length-append read more, h.fed, whole)) in
+          subst (λ (l : List ℕ). Finds w.asked w.room l result) (sym (ap (λ (l : List ℕ). read ++ l) none ∙ append-nil read)) (going w.asked w.room w.len read h.stands h.fed f)
     ]
 
 pub finds_some : (w : WalkState) (result : Result Found OpenFault) → IsWalk w → ((a : Result Found OpenFault) → w.stage ≡ Ended a → result ≡ a)

@@ -23,14 +23,14 @@ same_records dims (e ∷ L) [] g h x y fl fm shut_g shut_h same = let one : h �
 same_records dims (e ∷ L) (f ∷ M) g h x y fl fm shut_g shut_h same =
     let tail : (body e ++ flat_map record_bytes L) ++ g ∷ x ≡ (body f ++ flat_map record_bytes M) ++ h ∷ y = cc in
     let first = same_body dims e f (flat_map record_bytes L ++ g ∷ x) (flat_map record_bytes M ++ h ∷ y) fl.0 fm.0
-        (sym (append_assoc (body e) (flat_map record_bytes L) (g ∷ x)) ∙ tail ∙ append_assoc (body f) (flat_map record_bytes M) (h ∷ y)) in
+    (sym (append_assoc (body e) (flat_map record_bytes L) (g ∷ x)) ∙ tail ∙ append_assoc (body f) (flat_map record_bytes M) (h ∷ y)) in
     let rest = same_records dims L M g h x y fl.1 fm.1 shut_g shut_h first.1 in
     λ i. first.0 i ∷ rest i
 
 spelled_once : (file : List ℕ) (s t : Shape) (L M : List UploadData) → Spells s L file → Spells t M file → (s ≡ t) × (L ≡ M)
 spelled_once file s t L M a b =
     let whole : header s ++ (flat_map record_bytes L ++ a.gate ∷ a.rest) ≡ header t ++ (flat_map record_bytes M ++ b.gate ∷ b.rest) =
-        sym (append_assoc (header s) (flat_map record_bytes L) (a.gate ∷ a.rest)) ∙ sym a.bytes ∙ b.bytes ∙ append_assoc (header t) (flat_map record_bytes M) (b.gate ∷ b.rest) in
+    sym (append_assoc (header s) (flat_map record_bytes L) (a.gate ∷ a.rest)) ∙ sym a.bytes ∙ b.bytes ∙ append_assoc (header t) (flat_map record_bytes M) (b.gate ∷ b.rest) in
     let head = front_header s t (flat_map record_bytes L ++ a.gate ∷ a.rest) (flat_map record_bytes M ++ b.gate ∷ b.rest) a.shape_fits b.shape_fits whole in
     let fits = subst (λ (x : Shape). AllByRecursion (IsRecord (dims_of x)) M) (sym head.0) b.records_fit.each in
     (head.0, same_records (dims_of s) L M a.gate b.gate a.rest b.rest a.records_fit.each fits a.closed b.closed head.1)
@@ -41,7 +41,7 @@ not_blank file s L a blank =
     let size = ap length a.bytes ∙ length-append (front s L) (a.gate ∷ a.rest) in
     let front_size = length-append (header s) (flat_map record_bytes L) in
     let one : get_or file 0 0 ≡ 1 = ap (λ (l : List ℕ). get_or l 0 0) (a.bytes ∙ append_assoc (header s) (flat_map record_bytes L) (a.gate ∷ a.rest))
-        ∙ get_or_append_left (header s) (flat_map record_bytes L ++ a.gate ∷ a.rest) 0 0 (omega (arith, header_len s)) ∙ header_one s in
+    ∙ get_or_append_left (header s) (flat_map record_bytes L ++ a.gate ∷ a.rest) 0 0 (omega (arith, header_len s)) ∙ header_one s in
     ⊎_elim (λ le. omega (arith, le, size, front_size, header_len s)) (λ b. b.1 one) blank
 
 pub law : LawOfFiles

@@ -13,3 +13,4 @@ pub mod OneAnswer
 pub mod Complete
 pub mod Closings
 pub mod Masks
+pub mod WorkedOnes

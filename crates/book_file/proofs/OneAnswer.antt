@@ -84,12 +84,12 @@ compare dims (e ∷ L) [] X Y fl fm same = inr (inr (record {
 compare dims (e ∷ L) (f ∷ M) X Y fl fm same =
     let tail : (body e ++ flat_map record_bytes L) ++ X ≡ (body f ++ flat_map record_bytes M) ++ Y = cc in
     let first = same_body dims e f (flat_map record_bytes L ++ X) (flat_map record_bytes M ++ Y) fl.0 fm.0
-        (sym (append_assoc (body e) (flat_map record_bytes L) X) ∙ tail ∙ append_assoc (body f) (flat_map record_bytes M) Y) in
+    (sym (append_assoc (body e) (flat_map record_bytes L) X) ∙ tail ∙ append_assoc (body f) (flat_map record_bytes M) Y) in
     ⊎_elim
     (λ s. inl ((λ i. first.0 i ∷ s.0 i), s.1))
     (λ other. ⊎_elim
-      (λ left. inr (inl (further_cons dims e f L M X first.0 left)))
-      (λ right. inr (inr (further_cons dims f e M L Y (sym first.0) right))) other)
+    (λ left. inr (inl (further_cons dims e f L M X first.0 left)))
+    (λ right. inr (inr (further_cons dims f e M L Y (sym first.0) right))) other)
     (compare dims L M X Y fl.1 fm.1 first.1)
 
 -- ---- where a walk stops
@@ -129,8 +129,8 @@ same_stop asked room file s t L M X Y a b0 =
     ⊎_elim
     (λ same. (shapes, same.0, same.1))
     (λ other. ⊎_elim
-      (λ f. absurd (goes_further s room L M X a.records_fit b.records_fit b.few a.nogo f))
-      (λ f. absurd (goes_further s room M L Y b.records_fit a.records_fit a.few b.nogo f)) other)
+    (λ f. absurd (goes_further s room L M X a.records_fit b.records_fit b.few a.nogo f))
+    (λ f. absurd (goes_further s room M L Y b.records_fit a.records_fit a.few b.nogo f)) other)
     (compare (dims_of s) L M X Y a.records_fit.each b.records_fit.each (append_cancel_left (header s) _ _ whole))
 
 -- ---- answers as stops
@@ -202,8 +202,14 @@ reached_stop asked room file shape L X r is nogo = record { bytes = is; suits = 
 kind_of : (asked : Option Shape) (room : ℕ) (file : List ℕ) (r : Answer) → Finds asked room file r → (r ≡ Err Memory → ⊥) → Kind asked room file r
 kind_of asked room file (Ok Blank) f free = blank f
 kind_of asked room file (Ok (Book b end)) f free = stops (Ok (Book b end)) b.shape (records b.entries) (f.spells.gate ∷ f.spells.rest)
-    (record { bytes = f.spells.bytes; suits = f.suits; shape_fits = f.spells.shape_fits; records_fit = f.spells.records_fit; few = f.few;
-      nogo = λ r tail all le is. let one : f.spells.gate ≡ 1 = cc in f.spells.closed one })
+    (record {
+      bytes = f.spells.bytes;
+      suits = f.suits;
+      shape_fits = f.spells.shape_fits;
+      records_fit = f.spells.records_fit;
+      few = f.few;
+      nogo = λ r tail all le is. let one : f.spells.gate ≡ 1 = cc in f.spells.closed one;
+    })
     (holds b end f.spells.gate f.spells.rest refl f.spells.closed f.book f.place)
 kind_of asked room file (Err DiskFault) f free = absurd f
 kind_of asked room file (Err NotAJournal) f free = foreign f.0 f.1
@@ -216,10 +222,10 @@ kind_of asked room file (Err (Damaged at)) (inr f) free = stops (Err (Damaged at
     (breaks at f.tail f.place refl f.no_body)
 kind_of asked room file (Err (Full held more)) f free = stops (Err (Full held more)) f.shape f.before (1 ∷ (body f.next ++ f.tail))
     (reached_stop asked room file f.shape f.before (1 ∷ (body f.next ++ f.tail)) f.reached f.opens
-      (λ r tail all le is.
-        let t : body f.next ++ f.tail ≡ body r ++ tail = cc in
-        let one = same_body (dims_of f.shape) f.next r f.tail tail (last_fits (dims_of f.shape) f.before f.next f.well_formed) (last_fits (dims_of f.shape) f.before r all) t in
-        omega (arith, le, f.over, f.held_is, f.more_is, ap (λ (a : UploadData). length a.columns) one.0)))
+    (λ r tail all le is.
+    let t : body f.next ++ f.tail ≡ body r ++ tail = cc in
+    let one = same_body (dims_of f.shape) f.next r f.tail tail (last_fits (dims_of f.shape) f.before f.next f.well_formed) (last_fits (dims_of f.shape) f.before r all) t in
+    omega (arith, le, f.over, f.held_is, f.more_is, ap (λ (a : UploadData). length a.columns) one.0)))
     (overfills held more f.next f.tail refl f.well_formed f.held_is f.more_is f.over)
 kind_of asked room file (Err Memory) f free = absurd (free refl)
 

@@ -111,13 +111,13 @@ module _ (asked : Option Shape) (room len gate : ℕ) (head : List ℕ) (size : 
   pub shut_long : (get_or head 0 0 ≡ 1 → ⊥) → 18 < len → Decides asked room len head (Err NotAJournal)
   shut_long shut long = λ more is. (
     ⊎_elim (λ le. omega (arith, le, is, long)) (λ b. omega (arith, b.0, is, long)),
-    λ shape h. shut (sym (first_is more) ∙ ap (λ (l : List ℕ). get_or l 0 0) h.bytes ∙ get_or_append_left (header shape) h.rest 0 0 (omega (arith, header_len shape)) ∙ header_one shape)
+    λ shape h. shut (sym (first_is more) ∙ ap (λ (l : List ℕ). get_or l 0 0) h.bytes ∙ get_or_append_left (header shape) h.rest 0 0 (omega (arith, header_len shape)) ∙ header_one shape),
   )
 
   pub no_shape : get_or head 0 0 ≡ 1 → ((shape : Shape) → FitsShape shape → head ≡ header shape → ⊥) → Decides asked room len head (Err NotAJournal)
   no_shape one none = λ more is. (
     ⊎_elim (λ le. omega (arith, le, length-append head more, size)) (λ b. b.1 (first_is more ∙ one)),
-    λ shape h. none shape h.shape_fits ((same_split head (header shape) more h.rest (size ∙ sym (header_len shape)) h.bytes).0)
+    λ shape h. none shape h.shape_fits ((same_split head (header shape) more h.rest (size ∙ sym (header_len shape)) h.bytes).0),
   )
 
 pub wrong_shape : (asked : Option Shape) (room len : ℕ) (a kept : Shape) (read : List ℕ) → asked ≡ Some a → (a ≡ kept → ⊥) → FitsShape kept → read ≡ header kept → Decides asked room len read (Err (WrongShape kept a))
@@ -130,14 +130,17 @@ no_records dims = record { each = tt; apart = tt }
 pub begins : (asked : Option Shape) (room gate len : ℕ) (shape : Shape) (b : BookState) (rest read : List ℕ) → b ≡ record { shape = shape; room = room; entries = []; ready = [] } → Suits asked shape → FitsShape shape → read ≡ header shape
     → Steps asked room len gate (Gate b) rest read
 begins asked room gate len shape b rest read is suits fits same = subst (λ (x : BookState). Steps asked room len gate (Gate x) rest read) (sym is) (record {
-  waits = (record {
-    suits = suits;
-    book = refl;
-    shape_fits = fits;
-    records_fit = no_records (dims_of shape);
-    few = omega arith;
-    place = ap length (same ∙ sym (append-nil (header shape)));
-  }, same ∙ sym (append-nil (header shape)) ∙ sym (append-nil (header shape ++ [])));
+  waits = (
+    record {
+      suits = suits;
+      book = refl;
+      shape_fits = fits;
+      records_fit = no_records (dims_of shape);
+      few = omega arith;
+      place = ap length (same ∙ sym (append-nil (header shape)));
+    },
+    same ∙ sym (append-nil (header shape)) ∙ sym (append-nil (header shape ++ [])),
+  );
   lacks = λ e. omega arith;
   few = omega arith;
 })
@@ -208,22 +211,25 @@ module _ (u : UploadData) (b : BookState) (full : IsFull u) (fits : IsRecord (di
         let M = L ++ u ∷ [] in
         let entries : b.entries ++ read_entry u ∷ [] ≡ map read_entry M = ap (λ (x : BookState). x.entries ++ read_entry u ∷ []) going.book ∙ sym (map-append read_entry L (u ∷ [])) in
         let same : next ≡ book_of b.shape room M =
-            is
-            ∙ ap {B = BookState} (λ (e : Entry). record { shape = b.shape; room = b.room; entries = b.entries ++ e ∷ []; ready = [] }) stored_all
-            ∙ (λ i. record { shape = b.shape; room = ap (λ (x : BookState). x.room) going.book i; entries = entries i; ready = [] }) in
+        is
+        ∙ ap {B = BookState} (λ (e : Entry). record { shape = b.shape; room = b.room; entries = b.entries ++ e ∷ []; ready = [] }) stored_all
+        ∙ (λ i. record { shape = b.shape; room = ap (λ (x : BookState). x.room) going.book i; entries = entries i; ready = [] }) in
         let back : records (map read_entry M) ≡ M = ap records (sym entries) ∙ records_push b.entries (read_entry u) in
         let size_of : count_of M ≡ count_of L + length u.columns = ap length (columns_push L u) ∙ length-append (columns_in L) u.columns in
         let bytes : read ≡ front b.shape M = sym (front_push b.shape L u) in
         let well = well_formed going.records_fit in
         subst (λ (x : BookState). Steps asked room len gate (Gate x) rest read) (sym same) (record {
-          waits = (record {
-            suits = going.suits;
-            book = ap (λ (l : List UploadData). book_of b.shape room l) (sym back);
-            shape_fits = going.shape_fits;
-            records_fit = subst (λ (l : List UploadData). AreRecords (dims_of b.shape) l) (sym back) well;
-            few = subst (λ (l : List UploadData). count_of l ≤ room) (sym back) (omega (arith, size_of, le));
-            place = ap length (bytes ∙ ap (λ (l : List UploadData). front b.shape l) (sym back));
-          }, bytes ∙ ap (λ (l : List UploadData). front b.shape l) (sym back) ∙ sym (append-nil (front b.shape (records (map read_entry M)))));
+          waits = (
+            record {
+              suits = going.suits;
+              book = ap (λ (l : List UploadData). book_of b.shape room l) (sym back);
+              shape_fits = going.shape_fits;
+              records_fit = subst (λ (l : List UploadData). AreRecords (dims_of b.shape) l) (sym back) well;
+              few = subst (λ (l : List UploadData). count_of l ≤ room) (sym back) (omega (arith, size_of, le));
+              place = ap length (bytes ∙ ap (λ (l : List UploadData). front b.shape l) (sym back));
+            },
+            bytes ∙ ap (λ (l : List UploadData). front b.shape l) (sym back) ∙ sym (append-nil (front b.shape (records (map read_entry M)))),
+          );
           lacks = λ e. omega arith;
           few = omega arith;
         })

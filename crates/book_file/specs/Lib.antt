@@ -3,3 +3,4 @@ pub mod Found
 pub mod Walk
 pub mod Reading
 pub mod Laws
+pub mod Worked

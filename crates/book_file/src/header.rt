@@ -38,7 +38,9 @@ pub fn empty_file(shape: &Shape) -> [u8; 18]
     ensures fits { FitsShape shape.now }
 {
     hash_fits(shape.hash());
-    let mut out = [1, 0x4C, 0x47, 0x42, 0x31, 0, 0, 0, 0, 0, 0, 0, 0, 0, 0, 0, 0, 0];
+    let mut out = [
+        1, 0x4C, 0x47, 0x42, 0x31, 0, 0, 0, 0, 0, 0, 0, 0, 0, 0, 0, 0, 0,
+    ];
     put_shape(&mut out[5..], shape);
     out
 }

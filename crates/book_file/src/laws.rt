@@ -1,5 +1,6 @@
 //! Laws over the definitions alone, each on a function with an empty body.
 ghost use Rattle.book_file.specs.Laws.{LawOfFiles, LawOfBlankFiles, LawOfAnswers, LawOfWholeFiles, LawOfLengths};
+ghost use Rattle.book_file.specs.Worked.{WorkedFiles};
 
 /// Bytes that aren't blank stand for at most one shape and one list of records, and blank ones for the empty list alone.
 /// The closing gate stands at most 17 bytes and 64 for each column from the start (docs/FORMATS.md, The book file).
@@ -17,4 +18,9 @@ pub fn files_have_one_answer()
 /// A file that stands for a list which there is room for has no fault.
 pub fn whole_files_have_no_fault()
     ensures { LawOfWholeFiles }
+{}
+
+/// The file of a known record, and files that are close to it or short, worked out by computation.
+pub fn worked_files()
+    ensures { WorkedFiles }
 {}

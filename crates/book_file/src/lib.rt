@@ -18,11 +18,13 @@ mod laws;
 mod reading;
 mod stage;
 mod steps;
+#[cfg(test)]
+mod tests;
 mod walk;
 mod writing;
 
 pub use found::{Found, OpenFault};
 pub use header::empty_file;
-pub use laws::{files_are_apart, files_have_one_answer, whole_files_have_no_fault};
+pub use laws::{files_are_apart, files_have_one_answer, whole_files_have_no_fault, worked_files};
 pub use walk::Walk;
 pub use writing::body_of;

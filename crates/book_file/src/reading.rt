@@ -39,13 +39,18 @@ fn column_of(dims: Dims, bytes: &[u8]) -> Result<(Column, &[u8]), WireFault>
 }
 
 // That many columns at the front. None exactly where no such columns stand there.
-fn columns_of(alloc: Global, dims: Dims, count: u8, bytes: &[u8]) -> Result<Option<Vec<Column>>, Memory>
+fn columns_of(
+    alloc: Global,
+    dims: Dims,
+    count: u8,
+    bytes: &[u8],
+) -> Result<Option<Vec<Column>>, Memory>
     requires { IsDims dims }
     ensures { IfOk result (λ found. MatchOption found
         ((cs : List model.Column) (rest : List ℕ) → length cs ≡ count → AllByRecursion (IsColumnOf dims) cs
-            → bytes.now ≡ flat_map column_bytes cs ++ rest → ⊥)
+        → bytes.now ≡ flat_map column_bytes cs ++ rest → ⊥)
         (λ v. (length v.items ≡ count) × AllByRecursion (IsColumnOf dims) v.items
-            × ((rest : List ℕ) × (bytes.now ≡ flat_map column_bytes v.items ++ rest)))) }
+        × ((rest : List ℕ) × (bytes.now ≡ flat_map column_bytes v.items ++ rest)))) }
 {
     let mut columns = Vec::with_capacity(alloc, usize::from(count))?;
     let mut left = bytes;

@@ -9,5 +9,5 @@ invariant-loop l = record {
   count : length l.columns.items ≡ l.counter;
   each : AllByRecursion (IsColumnOf l.dims) l.columns.items;
   parts : l.bytes ≡ flat_map column_bytes l.columns.items ++ l.left;
-  fits : IsBytes l.left
+  fits : IsBytes l.left;
 }

@@ -15,7 +15,7 @@ returns-then-holds_any c = λ asked room len rest going.
     let b = c.args.book in
     let read : List ℕ = front b.shape (records b.entries) ++ 1 ∷ body u in
     let any : list_any (λ (x : Column). not (is_new (content b.entries) x)) u.columns ≡ true =
-        ap (λ (l : List Column). list_any (λ (x : Column). not (is_new (content b.entries) x)) l) (sym c.columns-columns.ensures.value) ∙ sym c.holds_any.ensures ∙ c.if-holds_any.true in
+    ap (λ (l : List Column). list_any (λ (x : Column). not (is_new (content b.entries) x)) l) (sym c.columns-columns.ensures.value) ∙ sym c.holds_any.ensures ∙ c.if-holds_any.true in
     subst (λ (s : Stage). Steps asked room len c.args.at s rest read) (sym c.damaged.ensures)
     (known asked room len c.args.at _ rest read (breaks asked room c.args.at b going len (body u) (key_known u b c.requires.full c.requires.record any)))
 
@@ -24,7 +24,7 @@ returns-then-held-more c = λ asked room len rest going.
     let u = c.args.upload.now in
     let b = c.args.book in
     let none : list_any (λ (x : Column). not (is_new (content b.entries) x)) u.columns ≡ false =
-        ap (λ (l : List Column). list_any (λ (x : Column). not (is_new (content b.entries) x)) l) (sym c.columns-columns.ensures.value) ∙ sym c.holds_any.ensures ∙ c.if-holds_any.false in
+    ap (λ (l : List Column). list_any (λ (x : Column). not (is_new (content b.entries) x)) l) (sym c.columns-columns.ensures.value) ∙ sym c.holds_any.ensures ∙ c.if-holds_any.false in
     let more : length c.columns-columns.result.now ≡ length u.columns = ap length c.columns-columns.ensures.value in
     let room_is = ap (λ (x : BookState). x.room) going.book in
     known asked room len c.args.at _ rest (front b.shape (records b.entries) ++ 1 ∷ body u)
@@ -35,7 +35,7 @@ add-requires-clause-fits c =
     let u = c.args.upload.now in
     let b = c.args.book in
     let none : list_any (λ (x : Column). not (is_new (content b.entries) x)) u.columns ≡ false =
-        ap (λ (l : List Column). list_any (λ (x : Column). not (is_new (content b.entries) x)) l) (sym c.columns-columns.ensures.value) ∙ sym c.holds_any.ensures ∙ c.if-holds_any.false in
+    ap (λ (l : List Column). list_any (λ (x : Column). not (is_new (content b.entries) x)) l) (sym c.columns-columns.ensures.value) ∙ sym c.holds_any.ensures ∙ c.if-holds_any.false in
     let more : length c.columns-columns.result.now ≡ length u.columns = ap length c.columns-columns.ensures.value in
     subst (λ (x : BookState). IsAddable x.shape x.room (records x.entries) u) (sym c.in-Ok.ensures.others)
     (may_add u b c.requires.full c.requires.record none (omega (arith, c.if-held-more.false, c.room.ensures.value, c.count-held.ensures.value, more)))
@@ -45,7 +45,7 @@ returns-in-Ok c = λ asked room len rest going.
     let u = c.args.upload.now in
     let b = c.args.book in
     let none : list_any (λ (x : Column). not (is_new (content b.entries) x)) u.columns ≡ false =
-        ap (λ (l : List Column). list_any (λ (x : Column). not (is_new (content b.entries) x)) l) (sym c.columns-columns.ensures.value) ∙ sym c.holds_any.ensures ∙ c.if-holds_any.false in
+    ap (λ (l : List Column). list_any (λ (x : Column). not (is_new (content b.entries) x)) l) (sym c.columns-columns.ensures.value) ∙ sym c.holds_any.ensures ∙ c.if-holds_any.false in
     let more : length c.columns-columns.result.now ≡ length u.columns = ap length c.columns-columns.ensures.value in
     let room_is = ap (λ (x : BookState). x.room) going.book in
     goes_on u b c.requires.full c.requires.record none asked room len c.args.at rest c.add.new.self going

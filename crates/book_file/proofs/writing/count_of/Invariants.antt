@@ -9,5 +9,5 @@ abbrev pub invariant-loop : goal.invariant-loop
 invariant-loop l = record {
   few : l.count ≤ l.index;
   left : Left l.mask l.columns l.index l.left;
-  count : (p : Column → Bool) → l.mask ≡ mask_of (map p l.columns) → l.count ≡ length (filter p (take l.index l.columns))
+  count : (p : Column → Bool) → l.mask ≡ mask_of (map p l.columns) → l.count ≡ length (filter p (take l.index l.columns));
 }

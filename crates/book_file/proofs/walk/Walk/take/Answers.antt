@@ -47,7 +47,7 @@ invariant_of-self-in-Body c =
     let ok : is_ok c.extend_from_slice.result ≡ true = c.is_err.ensures.negation ∙ ap not c.if-is_err.false in
     let rest2 : new ≡ s.rest.items ++ bytes = kept_ok c.extend_from_slice.result s.rest.items bytes new c.extend_from_slice.ensures.items ok in
     walk_on _ _ bytes c.self.invariant (fed_stepped s.terms.asked s.terms.room s.terms.len s.fed s.rest.items s.gate s.stage bytes inside going new new c.deref-2.result.now s.gate c.replace-stage.result c.step.result rest2 c.replace-stage.ensures.value c.deref-2.ensures.value c.step.ensures
-      (subst (λ (x : Stage). new ≡ kept_after x new) (sym c.in-Body.is) refl) (subst (λ (x : Stage). s.gate ≡ gate_after x s.gate (s.fed + length bytes)) (sym c.in-Body.is) refl))
+    (subst (λ (x : Stage). new ≡ kept_after x new) (sym c.in-Body.is) refl) (subst (λ (x : Stage). s.gate ≡ gate_after x s.gate (s.fed + length bytes)) (sym c.in-Body.is) refl))
 
 pub invariant_of-self-in-Gate : goal.invariant_of-self-in-Gate
 invariant_of-self-in-Gate c =
@@ -59,7 +59,7 @@ invariant_of-self-in-Gate c =
     let ok : is_ok c.extend_from_slice.result ≡ true = c.is_err.ensures.negation ∙ ap not c.if-is_err.false in
     let rest2 : new ≡ s.rest.items ++ bytes = kept_ok c.extend_from_slice.result s.rest.items bytes new c.extend_from_slice.ensures.items ok in
     walk_on _ _ bytes c.self.invariant (fed_stepped s.terms.asked s.terms.room s.terms.len s.fed s.rest.items s.gate s.stage bytes inside going new c.clear.new.self.items c.deref-2.result.now (s.fed + length bytes) c.replace-stage.result c.step.result rest2 c.replace-stage.ensures.value c.deref-2.ensures.value c.step.ensures
-      (c.clear.ensures.items ∙ subst (λ (x : Stage). [] ≡ kept_after x new) (sym c.in-Gate.is) refl) (subst (λ (x : Stage). s.fed + length bytes ≡ gate_after x s.gate (s.fed + length bytes)) (sym c.in-Gate.is) refl))
+    (c.clear.ensures.items ∙ subst (λ (x : Stage). [] ≡ kept_after x new) (sym c.in-Gate.is) refl) (subst (λ (x : Stage). s.fed + length bytes ≡ gate_after x s.gate (s.fed + length bytes)) (sym c.in-Gate.is) refl))
 
 pub invariant_of-self-in_default-stage : goal.invariant_of-self-in_default-stage
 invariant_of-self-in_default-stage c =
@@ -71,7 +71,7 @@ invariant_of-self-in_default-stage c =
     let ok : is_ok c.extend_from_slice.result ≡ true = c.is_err.ensures.negation ∙ ap not c.if-is_err.false in
     let rest2 : new ≡ s.rest.items ++ bytes = kept_ok c.extend_from_slice.result s.rest.items bytes new c.extend_from_slice.ensures.items ok in
     walk_on _ _ bytes c.self.invariant (fed_stepped s.terms.asked s.terms.room s.terms.len s.fed s.rest.items s.gate s.stage bytes inside going new c.clear-in_default-stage.new.self.items c.deref-2.result.now s.gate c.replace-stage.result c.step.result rest2 c.replace-stage.ensures.value c.deref-2.ensures.value c.step.ensures
-      (c.clear-in_default-stage.ensures.items ∙ kept_none c.step.result new c.in_default-stage.not-Body) (gate_stays c.step.result s.gate (s.fed + length bytes) c.in_default-stage.not-Gate))
+    (c.clear-in_default-stage.ensures.items ∙ kept_none c.step.result new c.in_default-stage.not-Body) (gate_stays c.step.result s.gate (s.fed + length bytes) c.in_default-stage.not-Gate))
 
 pub returns-in-Body : goal.returns-in-Body
 returns-in-Body c =
@@ -83,7 +83,7 @@ returns-in-Body c =
     let ok : is_ok c.extend_from_slice.result ≡ true = c.is_err.ensures.negation ∙ ap not c.if-is_err.false in
     let rest2 : new ≡ s.rest.items ++ bytes = kept_ok c.extend_from_slice.result s.rest.items bytes new c.extend_from_slice.ensures.items ok in
     from_view _ _ _ bytes c.self.view_is (fed_stepped s.terms.asked s.terms.room s.terms.len s.fed s.rest.items s.gate s.stage bytes inside going new new c.deref-2.result.now s.gate c.replace-stage.result c.step.result rest2 c.replace-stage.ensures.value c.deref-2.ensures.value c.step.ensures
-      (subst (λ (x : Stage). new ≡ kept_after x new) (sym c.in-Body.is) refl) (subst (λ (x : Stage). s.gate ≡ gate_after x s.gate (s.fed + length bytes)) (sym c.in-Body.is) refl))
+    (subst (λ (x : Stage). new ≡ kept_after x new) (sym c.in-Body.is) refl) (subst (λ (x : Stage). s.gate ≡ gate_after x s.gate (s.fed + length bytes)) (sym c.in-Body.is) refl))
 
 pub returns-in-Gate : goal.returns-in-Gate
 returns-in-Gate c =
@@ -95,7 +95,7 @@ returns-in-Gate c =
     let ok : is_ok c.extend_from_slice.result ≡ true = c.is_err.ensures.negation ∙ ap not c.if-is_err.false in
     let rest2 : new ≡ s.rest.items ++ bytes = kept_ok c.extend_from_slice.result s.rest.items bytes new c.extend_from_slice.ensures.items ok in
     from_view _ _ _ bytes c.self.view_is (fed_stepped s.terms.asked s.terms.room s.terms.len s.fed s.rest.items s.gate s.stage bytes inside going new c.clear.new.self.items c.deref-2.result.now (s.fed + length bytes) c.replace-stage.result c.step.result rest2 c.replace-stage.ensures.value c.deref-2.ensures.value c.step.ensures
-      (c.clear.ensures.items ∙ subst (λ (x : Stage). [] ≡ kept_after x new) (sym c.in-Gate.is) refl) (subst (λ (x : Stage). s.fed + length bytes ≡ gate_after x s.gate (s.fed + length bytes)) (sym c.in-Gate.is) refl))
+    (c.clear.ensures.items ∙ subst (λ (x : Stage). [] ≡ kept_after x new) (sym c.in-Gate.is) refl) (subst (λ (x : Stage). s.fed + length bytes ≡ gate_after x s.gate (s.fed + length bytes)) (sym c.in-Gate.is) refl))
 
 pub returns-in_default-stage : goal.returns-in_default-stage
 returns-in_default-stage c =
@@ -107,4 +107,4 @@ returns-in_default-stage c =
     let ok : is_ok c.extend_from_slice.result ≡ true = c.is_err.ensures.negation ∙ ap not c.if-is_err.false in
     let rest2 : new ≡ s.rest.items ++ bytes = kept_ok c.extend_from_slice.result s.rest.items bytes new c.extend_from_slice.ensures.items ok in
     from_view _ _ _ bytes c.self.view_is (fed_stepped s.terms.asked s.terms.room s.terms.len s.fed s.rest.items s.gate s.stage bytes inside going new c.clear-in_default-stage.new.self.items c.deref-2.result.now s.gate c.replace-stage.result c.step.result rest2 c.replace-stage.ensures.value c.deref-2.ensures.value c.step.ensures
-      (c.clear-in_default-stage.ensures.items ∙ kept_none c.step.result new c.in_default-stage.not-Body) (gate_stays c.step.result s.gate (s.fed + length bytes) c.in_default-stage.not-Gate))
+    (c.clear-in_default-stage.ensures.items ∙ kept_none c.step.result new c.in_default-stage.not-Body) (gate_stays c.step.result s.gate (s.fed + length bytes) c.in_default-stage.not-Gate))
