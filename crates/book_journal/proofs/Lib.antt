@@ -3,3 +3,5 @@ mod AppendLemmas
 mod ReadLemmas
 mod PieceLemmas
 mod LookLemmas
+mod FileLemmas
+mod BlankLemmas

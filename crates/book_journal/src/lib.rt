@@ -8,7 +8,7 @@
 #![tactic(auto)]
 
 mod applied;
-mod fault;
+mod creating;
 mod looking;
 mod synced;
 
