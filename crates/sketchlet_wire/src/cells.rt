@@ -44,6 +44,18 @@ fn bucket_of(bytes: &[u8]) -> Bucket
     }
 }
 
+// Reads buckets from the first bytes, one for each of the list. As a call of its own it works in memory; as a part of its
+// caller it kept eight buckets in registers, and took a fifth longer.
+#[inline(never)]
+fn fill(kept: &mut [Bucket], bytes: &[u8])
+    requires { 6 * length kept.old ≤ length bytes.now }
+    ensures { kept.new ≡ buckets_from (length kept.old) bytes.now }
+{
+    for i in 0..kept.len() {
+        kept[i] = bucket_of(&bytes[6 * i..]);
+    }
+}
+
 // The buckets of the rows, with zeros after them.
 fn kept_of(rows: u8, bytes: &[u8]) -> [Bucket; 8]
     requires few { rows ≤ MOST_ROWS }
@@ -51,9 +63,7 @@ fn kept_of(rows: u8, bytes: &[u8]) -> [Bucket; 8]
     ensures { result ≡ buckets_from rows bytes.now ++ drop rows zeros }
 {
     let mut kept = [Bucket { bytes: 0, delay: 0 }; 8];
-    for i in 0..rows as usize {
-        kept[i] = bucket_of(&bytes[6 * i..]);
-    }
+    fill(&mut kept[..rows as usize], bytes);
     kept
 }
 
