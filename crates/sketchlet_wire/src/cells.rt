@@ -56,8 +56,8 @@ fn fill(kept: &mut [Bucket], bytes: &[u8])
     }
 }
 
-// The buckets of the rows, with zeros after them.
-fn kept_of(rows: u8, bytes: &[u8]) -> [Bucket; 8]
+/// The buckets of that many rows, at most 8, in the first bytes, 6 for each row, with zeros after them.
+pub(crate) fn kept_of(rows: u8, bytes: &[u8]) -> [Bucket; 8]
     requires few { rows ≤ MOST_ROWS }
     requires there { 6 * rows ≤ length bytes.now }
     ensures { result ≡ buckets_from rows bytes.now ++ drop rows zeros }
