@@ -1,6 +1,6 @@
 -- How a column is kept and written, over plain lists.
-use Rattle.std.proofs.Common.{◌≡◌, ℕ, get_or, suc, ◌+◌, ◌-◌, ◌*◌, ◌^◌, ◌<◌, ◌≤◌, List, [], ◌∷◌}
-use Rattle.std.proofs.Common.{◌++◌, length, take, drop, replicate, slice_set, refl, sym, ap, ◌∙◌, append_assoc, zero, arith}
+use Rattle.std.proofs.Common.{◌≡◌, ℕ, get_or, ◌+◌, ◌-◌, ◌*◌, ◌^◌, ◌<◌, ◌≤◌, List, [], ◌∷◌}
+use Rattle.std.proofs.Common.{◌++◌, length, take, drop, replicate, slice_set, refl, sym, ap, ◌∙◌, append_assoc, arith}
 use Rattle.std.proofs.Math.Numerals.{add-one}
 use Rattle.std.specs.List.{flat_map}
 use Rattle.std.proofs.lemmas.List.{take_at, drop_at, length-append, length-take, length-drop, drop-drop, drop-replicate, set_at, append-nil, nil_from_length}
