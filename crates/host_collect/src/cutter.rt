@@ -104,19 +104,16 @@ impl Cutter {
         let seq = self.given;
         self.given += 1;
         self.taken += 1;
-        match Upload::new(self.host, seq, held) {
-            Ok(upload) => Ok(Some(upload)),
-            Err(_) => unreachable!(),
-        }
+        Ok(Some(Upload::of(self.host, seq, held)))
     }
 
     /// The upload of the columns held. None exactly where there are none. Takes no memory.
     pub fn finish(self) -> Option<Upload>
         ensures { result ≡ held_upload self }
     {
-        match Upload::new(self.host, self.given, self.held) {
-            Ok(upload) => Some(upload),
-            Err(_) => None,
+        if self.held.is_empty() {
+            return None;
         }
+        Some(Upload::of(self.host, self.given, self.held))
     }
 }

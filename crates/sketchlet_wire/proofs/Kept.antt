@@ -1,10 +1,10 @@
 -- How a column is kept and written, over plain lists.
-use Rattle.std.proofs.Common.{◌≡◌, ℕ, get_or, suc, ◌+◌, ◌-◌, ◌*◌, ◌^◌, ◌<◌, ◌≤◌, List, [], ◌∷◌}
-use Rattle.std.proofs.Common.{◌++◌, length, take, drop, replicate, slice_set, refl, sym, ap, ◌∙◌, append_assoc, zero, arith}
+use Rattle.std.proofs.Common.{◌≡◌, ℕ, get_or, ◌+◌, ◌-◌, ◌*◌, ◌^◌, ◌<◌, ◌≤◌, List, [], ◌∷◌}
+use Rattle.std.proofs.Common.{◌++◌, length, take, drop, replicate, slice_set, refl, sym, ap, ◌∙◌, append_assoc, arith}
 use Rattle.std.proofs.Math.Numerals.{add-one}
 use Rattle.std.specs.List.{flat_map}
 use Rattle.std.proofs.lemmas.List.{take_at, drop_at, length-append, length-take, length-drop, drop-drop, drop-replicate, set_at, append-nil, nil_from_length}
-use Rattle.std.proofs.lemmas.List.{take_all, take_more}
+use Rattle.std.proofs.lemmas.List.{take_all, take_more, drop_more}
 use Rattle.std.proofs.lemmas.List.Concat.{flat_map-append, flat_map-cons}
 use borrow.Rule.Slice.PartMut.{put_mid, mid_of}
 use Rattle.lg_model.specs.declared.column.Bucket.{Bucket}
@@ -14,17 +14,6 @@ use Rattle.lg_model.specs.Sketch.{zero_bucket}
 use Rattle.sketchlet_wire.specs.Spelling.{IsAdmitted, IsKept, FitBuckets, zeros, bucket_bytes}
 use Rattle.sketchlet_wire.specs.Reading.{bucket_from, buckets_from}
 use Rattle.sketchlet_wire.proofs.Fields.{fit_front, buckets_len, buckets_more, buckets_from_len}
-
-sub_zeros : (i : ℕ) → i < 8 → drop i zeros ≡ zero_bucket ∷ drop (suc i) zeros
-sub_zeros zero lt = refl
-sub_zeros (suc zero) lt = refl
-sub_zeros (suc (suc zero)) lt = refl
-sub_zeros (suc (suc (suc zero))) lt = refl
-sub_zeros (suc (suc (suc (suc zero)))) lt = refl
-sub_zeros (suc (suc (suc (suc (suc zero))))) lt = refl
-sub_zeros (suc (suc (suc (suc (suc (suc zero)))))) lt = refl
-sub_zeros (suc (suc (suc (suc (suc (suc (suc zero))))))) lt = refl
-sub_zeros (suc (suc (suc (suc (suc (suc (suc (suc n)))))))) lt = absurd (omega arith)
 
 pub is_kept : (key : Key) (dims : Dims) (buckets : List Bucket) → IsAdmitted key dims → key.switch < 2 ^ 16 → key.epoch < 2 ^ 32 → length buckets ≡ 8
     → FitBuckets buckets
@@ -55,15 +44,15 @@ cleared n buckets new few long new-is =
     ∙ ap (λ (x : List Bucket). new ++ x) end ∙ append-nil new ∙ new-is ∙ ap (λ (k : ℕ). replicate k zero_bucket) len ∙ sym (drop-replicate n 8 zero_bucket)
 
 -- one bucket more is read
-pub read_more : (i : ℕ) (bytes : List ℕ) (kept : List Bucket) → i < 8 → kept ≡ buckets_from i bytes ++ drop i zeros
-    → slice_set kept i (bucket_from (drop (6 * i) bytes)) ≡ buckets_from (i + 1) bytes ++ drop (i + 1) zeros
-read_more i bytes kept lt so_far =
+pub read_more : (i : ℕ) (bytes : List ℕ) (kept old : List Bucket) → i < length old → kept ≡ buckets_from i bytes ++ drop i old
+    → slice_set kept i (bucket_from (drop (6 * i) bytes)) ≡ buckets_from (i + 1) bytes ++ drop (i + 1) old
+read_more i bytes kept old lt so_far =
     let b = bucket_from (drop (6 * i) bytes) in
-    let open_zeros : drop i zeros ≡ zero_bucket ∷ drop (suc i) zeros = sub_zeros i lt in
-    let e : kept ≡ buckets_from i bytes ++ zero_bucket ∷ drop (suc i) zeros = so_far ∙ ap (λ (z : List Bucket). buckets_from i bytes ++ z) open_zeros in
-    ap (λ (k : List Bucket). slice_set k i b) e ∙ set_at (buckets_from i bytes) zero_bucket (drop (suc i) zeros) b i (buckets_from_len i bytes)
-    ∙ sym (append_assoc (buckets_from i bytes) (b ∷ []) (drop (suc i) zeros)) ∙ ap (λ (x : List Bucket). x ++ drop (suc i) zeros) (sym (buckets_more i bytes))
-    ∙ ap (λ (k : ℕ). buckets_from k bytes ++ drop k zeros) (sym (add-one i))
+    let y = get_or old i zero_bucket in
+    let e : kept ≡ buckets_from i bytes ++ y ∷ drop (i + 1) old = so_far ∙ ap (λ (z : List Bucket). buckets_from i bytes ++ z) (drop_more old i zero_bucket lt) in
+    ap (λ (k : List Bucket). slice_set k i b) e ∙ set_at (buckets_from i bytes) y (drop (i + 1) old) b i (buckets_from_len i bytes)
+    ∙ sym (append_assoc (buckets_from i bytes) (b ∷ []) (drop (i + 1) old)) ∙ ap (λ (x : List Bucket). x ++ drop (i + 1) old) (sym (buckets_more i bytes))
+    ∙ ap (λ (k : ℕ). buckets_from k bytes ++ drop (i + 1) old) (sym (add-one i))
 
 -- a text is put after what was put, up to the end of the bytes
 pub put_on : (front text out old : List ℕ) (n k t m : ℕ) → length front ≡ n → out ≡ front ++ drop n old → n ≤ length old → k ≡ length old - n → m ≡ n + t
@@ -104,14 +93,14 @@ bucket_more out old new bs b i n k n-is lt fits k-is b-is so_far new-is =
     put_there F (bucket_bytes b) out old new n k 6 (6 * (i + 1)) len so_far2 (omega (arith, n-is, lt, fits)) k-is (omega (arith, n-is)) new-is
     ∙ ap (λ (x : List ℕ). x ++ drop (6 * (i + 1)) old) (sym more)
 
--- the cells are written after the head
-pub cells_put : (a d key cells out old new : List ℕ) (n : ℕ) → length a + (length d + length key) ≡ 14 → length old ≡ 62
+-- the cells are written after the head, up to the end of the bytes
+pub cells_put : (a d key cells out old new : List ℕ) (k n : ℕ) → length a + (length d + length key) ≡ 14 → 14 ≤ length old → k ≡ length old - 14
     → out ≡ a ++ (d ++ (key ++ drop 14 old))
-    → new ≡ cells ++ drop n (mid_of 14 48 out) → put_mid 14 48 out new ≡ (a ++ (d ++ (key ++ cells))) ++ drop (14 + n) old
-cells_put a d key cells out old new n head old-len so_far new-is =
+    → new ≡ cells ++ drop n (mid_of 14 k out) → put_mid 14 k out new ≡ (a ++ (d ++ (key ++ cells))) ++ drop (14 + n) old
+cells_put a d key cells out old new k n head fits k-is so_far new-is =
     let front : List ℕ = a ++ (d ++ key) in
     let len : length front ≡ 14 = omega (arith, length-append a (d ++ key), length-append d key, head) in
     let so_far2 : out ≡ front ++ drop 14 old = so_far ∙ simp append_assoc in
     let regroup : front ++ cells ≡ a ++ (d ++ (key ++ cells)) = simp append_assoc in
-    put_there front cells out old new 14 48 n (14 + n) len so_far2 (omega (arith, old-len)) (omega (arith, old-len)) refl new-is
+    put_there front cells out old new 14 k n (14 + n) len so_far2 fits k-is refl new-is
     ∙ ap (λ (x : List ℕ). x ++ drop (14 + n) old) regroup

@@ -44,16 +44,26 @@ fn bucket_of(bytes: &[u8]) -> Bucket
     }
 }
 
-// The buckets of the rows, with zeros after them.
-fn kept_of(rows: u8, bytes: &[u8]) -> [Bucket; 8]
+// Reads buckets from the first bytes, one for each of the list. As a call of its own it works in memory; as a part of its
+// caller it kept eight buckets in registers, and took a fifth longer.
+#[inline(never)]
+fn fill(kept: &mut [Bucket], bytes: &[u8])
+    requires { 6 * length kept.old ≤ length bytes.now }
+    ensures { kept.new ≡ buckets_from (length kept.old) bytes.now }
+{
+    for i in 0..kept.len() {
+        kept[i] = bucket_of(&bytes[6 * i..]);
+    }
+}
+
+/// The buckets of that many rows, at most 8, in the first bytes, 6 for each row, with zeros after them.
+pub(crate) fn kept_of(rows: u8, bytes: &[u8]) -> [Bucket; 8]
     requires few { rows ≤ MOST_ROWS }
     requires there { 6 * rows ≤ length bytes.now }
     ensures { result ≡ buckets_from rows bytes.now ++ drop rows zeros }
 {
     let mut kept = [Bucket { bytes: 0, delay: 0 }; 8];
-    for i in 0..rows as usize {
-        kept[i] = bucket_of(&bytes[6 * i..]);
-    }
+    fill(&mut kept[..rows as usize], bytes);
     kept
 }
 

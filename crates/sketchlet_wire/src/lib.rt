@@ -6,6 +6,7 @@
 //! | [`encode`], [`decode`] | a column to bytes and back |
 //! | [`WireFault`] | why bytes are no column |
 //! | [`Packed`] | a spelling in an array |
+//! | [`put_column`] | writes a column's bytes at the front of others |
 //! | [`put_key`], [`take_key`] | the 8 bytes of a key |
 //! | [`put_cells`], [`take_cells`] | the bytes of the cells of a column, 6 for each row |
 //! | [`put_shape`], [`take_shape`] | the 12 bytes of a shape of sketches |
@@ -39,7 +40,7 @@ pub use packed::Packed;
 pub use reading::decode;
 pub use shape::{put_shape, take_shape};
 pub use upload::{Upload, holds};
-pub use writing::encode;
+pub use writing::{encode, put_column};
 
 #[cfg(test)]
 mod tests;

@@ -5,9 +5,9 @@ ghost use Rattle.lg_model.specs.declared.limits.TheConstants.{MOST_ROWS, MOST_WI
 ghost use Rattle.lg_model.specs.Columns.{Column as ColumnOfModel};
 ghost use Rattle.sketchlet_wire.specs.Spelling.{IsColumn, spelling, spelling_len, IsDims};
 ghost use Rattle.sketchlet_wire.specs.Reading.{mark_at, rows_at, width_at, marks_at, dims_at};
-ghost use Rattle.sketchlet_wire.specs.Reading.{admitted_key_at, sketchlet_at, column_reading};
+ghost use Rattle.sketchlet_wire.specs.Reading.{admitted_key_at, column_reading};
 
-use crate::cells::take_cells;
+use crate::cells::kept_of;
 use crate::column::Column;
 use crate::fault::WireFault;
 use crate::key::take_key;
@@ -83,27 +83,20 @@ fn admitted_key_of(width: u16, bytes: &[u8]) -> Result<(Key, &[u8]), WireFault>
     Ok((key, rest))
 }
 
-#[tactic(auto, unfolding(crate::specs::Reading::sketchlet_at))]
-fn column_of(bytes: &[u8]) -> Result<(Column, &[u8]), WireFault>
-    ensures { Gives (λ x. (x.0, x.1.now)) result (sketchlet_at bytes.now) }
+// The buckets go from where they are read into the answer: each function between would copy them.
+#[tactic(auto, unfolding(crate::specs::Reading::sketchlet_at, crate::specs::Reading::cells_at))]
+fn read(bytes: &[u8]) -> Result<(Column, usize), WireFault>
+    ensures { result ≡ column_reading bytes.now }
 {
     let rest = marks_of(bytes)?;
     let (dims, rest) = dims_of(rest)?;
     let (key, rest) = admitted_key_of(dims.width, rest)?;
-    let (buckets, rest) = take_cells(dims.rows, rest, WireFault::Short)?;
-    Ok((Column::kept(key, dims, buckets), rest))
-}
-
-fn read(bytes: &[u8]) -> Result<(Column, usize), WireFault>
-    ensures { result ≡ column_reading bytes.now }
-{
-    match column_of(bytes) {
-        Ok((column, _)) => {
-            let len = 14 + 6 * usize::from(column.dims().rows);
-            Ok((column, len))
-        }
-        Err(fault) => Err(fault),
+    let len = 6 * usize::from(dims.rows);
+    if rest.len() < len {
+        return Err(WireFault::Short);
     }
+    let buckets = kept_of(dims.rows, rest);
+    Ok((Column::kept(key, dims, buckets), 14 + len))
 }
 
 /// The column at the front of the bytes, whatever follows it, and the length of its spelling, `14 + 6 * rows`. Takes no

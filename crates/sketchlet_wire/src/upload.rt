@@ -2,19 +2,26 @@
 ghost use Rattle.std.specs.Prelude.{◌≡◌, ◌<◌, ℕ, length, false, true, IfSome, IfNone, MatchResult};
 ghost use Rattle.std.specs.List.{AllByRecursion};
 ghost use Rattle.sketchlet_wire.specs.Spelling.{IsColumn};
-ghost use Rattle.sketchlet_wire.specs.Uploads.{holds_key, is_twice, IsUpload, IsFull, upload_of};
+ghost use Rattle.sketchlet_wire.specs.Uploads.{holds_key, is_twice, same_column_key, IsUpload, IsFull, upload_of};
 
 use crate::column::Column;
 use lg_model::Key;
 use lg_model::limits::MOST_UPLOAD_COLUMNS;
 use std::marker::Model;
 
+// Whether both keys are one. The index comes first, since the columns of a host differ in it most often.
+fn is_same_key(a: &Key, b: &Key) -> bool
+    ensures { result ≡ same_column_key a.now b.now }
+{
+    a.index == b.index && a.epoch == b.epoch && a.switch == b.switch
+}
+
 /// Whether a column of the list has that key. Takes no memory.
 pub fn holds(columns: &[Column], key: &Key) -> bool
     ensures { result ≡ holds_key key.now columns.now }
 {
     for column in columns {
-        if column.key() == *key {
+        if is_same_key(&column.key(), key) {
             return true;
         }
     }
@@ -63,6 +70,16 @@ impl Model for Upload {
 }
 
 impl Upload {
+    /// An upload of these columns in their order, with the host's name and the number of the upload at this host. They are 1
+    /// to 16, no two of one key: who has not looked at them calls [`Upload::new`]. Takes no memory.
+    pub fn of(host: u16, seq: u32, columns: Vec<Column>) -> Upload
+        requires { IsUpload columns.items }
+        ensures { result ≡ upload_of host seq columns.items }
+    {
+        columns_fit(&columns);
+        Upload { host, seq, columns }
+    }
+
     /// An upload of these columns in their order, with the host's name and the number of the upload at this host. The columns
     /// come back, as they were, exactly where they are none, more than 16, or two have one key. Takes no memory.
     pub fn new(host: u16, seq: u32, columns: Vec<Column>) -> Result<Upload, Vec<Column>>
@@ -76,8 +93,7 @@ impl Upload {
         {
             return Err(columns);
         }
-        columns_fit(&columns);
-        Ok(Upload { host, seq, columns })
+        Ok(Upload::of(host, seq, columns))
     }
 
     /// The host's name.

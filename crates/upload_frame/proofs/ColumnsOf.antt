@@ -4,7 +4,7 @@ use Rattle.std.proofs.Common.{◌++◌, length, take, drop, get_or, Result, Ok, 
 use Rattle.std.specs.List.{flat_map, AllByRecursion}
 use Rattle.std.proofs.Math.ListN.{get_or-append}
 use Rattle.std.proofs.lemmas.Bool.{cases_lt, eqb-true}
-use Rattle.std.proofs.lemmas.List.{length-append, append-nil, nil_from_length, take-append-le, take_at, drop_at, get_or_at, take_more}
+use Rattle.std.proofs.lemmas.List.{length-append, append-nil, nil_from_length, take-append-le, take_at, drop_at, get_or_at, take_more, take-append-drop}
 use Rattle.std.proofs.lemmas.List.Concat.{flat_map-cons, flat_map-append}
 use Rattle.byte_fields.specs.Reading.{◌>>=◌}
 use Rattle.byte_fields.specs.Law.{IsBytes}
@@ -178,11 +178,22 @@ law = record {
 }
 
 -- One sketchlet more of a list.
+pub text_more : (cs : List Column) (i : ℕ) (d : Column) → i < length cs
+    → flat_map spelling (take (i + 1) cs) ≡ flat_map spelling (take i cs) ++ spelling (get_or cs i d)
+text_more cs i d lt =
+    let c : Column = get_or cs i d in
+    ap (flat_map spelling) (take_more cs i d lt) ∙ flat_map-append spelling (take i cs) (c ∷ [])
+    ∙ ap (λ (x : List ℕ). flat_map spelling (take i cs) ++ x) (flat_map-cons spelling c [] ∙ append-nil (spelling c))
+
 pub length_more : (cs : List Column) (i : ℕ) (d : Column) → i < length cs → IsColumn (get_or cs i d)
     → length (flat_map spelling (take (i + 1) cs)) ≡ length (flat_map spelling (take i cs)) + spelling_len (get_or cs i d).dims.rows
 length_more cs i d lt is =
     let c : Column = get_or cs i d in
-    let e : flat_map spelling (take (i + 1) cs) ≡ flat_map spelling (take i cs) ++ spelling c =
-    ap (flat_map spelling) (take_more cs i d lt) ∙ flat_map-append spelling (take i cs) (c ∷ [])
-    ∙ ap (λ (x : List ℕ). flat_map spelling (take i cs) ++ x) (flat_map-cons spelling c [] ∙ append-nil (spelling c)) in
-    ap length e ∙ omega (arith, length-append (flat_map spelling (take i cs)) (spelling c), spelling_length c is)
+    ap length (text_more cs i d lt) ∙ omega (arith, length-append (flat_map spelling (take i cs)) (spelling c), spelling_length c is)
+
+-- The sketchlets of the first columns are within those of all.
+pub within : (cs : List Column) (i : ℕ) → length (flat_map spelling (take i cs)) ≤ length (flat_map spelling cs)
+within cs i =
+    let all : flat_map spelling cs ≡ flat_map spelling (take i cs) ++ flat_map spelling (drop i cs) =
+    ap (flat_map spelling) (sym (take-append-drop i cs)) ∙ flat_map-append spelling (take i cs) (drop i cs) in
+    omega (arith, ap length all, length-append (flat_map spelling (take i cs)) (flat_map spelling (drop i cs)))

@@ -71,6 +71,8 @@ fn reads_the_worked_frame_byte_by_byte(rt: HostRuntime) -> Result<(), Fail> {
         assert_eq!(rt; reader.frame_bytes(), 0);
         assert!(rt; is_fed(&mut reader, &WORKED[n..=n]));
     }
+    // All 36 are there, and none is taken yet.
+    assert_eq!(rt; reader.frame_bytes(), 0);
     match reader.next() {
         Ok(Some(Frame::Upload(read))) => {
             assert_eq!(rt; (read.host(), read.seq(), read.columns().len()), (1, 0, 1));

@@ -81,8 +81,5 @@ pub(crate) fn upload_of(alloc: Global, len: u16, body: &[u8]) -> Result<Upload, 
 {
     let (host, seq, count, rest) = head_of(len, body)?;
     let columns = columns_of(alloc, len, count, rest)?;
-    match Upload::new(host, seq, columns) {
-        Ok(upload) => Ok(upload),
-        Err(_) => unreachable!(),
-    }
+    Ok(Upload::of(host, seq, columns))
 }

@@ -1,5 +1,5 @@
 //! Writing frames.
-ghost use Rattle.std.specs.Prelude.{◌≡◌, ◌≤◌, ◌<◌, ◌*◌, ◌+◌, ◌++◌, ◌∷◌, [], length, OnOk, IfOk};
+ghost use Rattle.std.specs.Prelude.{◌≡◌, ◌≤◌, ◌<◌, ◌*◌, ◌+◌, ◌++◌, ◌∷◌, [], length, IfOk};
 ghost use Rattle.std.specs.List.{flat_map};
 ghost use Rattle.std.specs.Int.{w16, w32, to_be_bytes};
 ghost use Rattle.sketchlet_wire.specs.Spelling.{spelling};
@@ -12,8 +12,8 @@ use crate::frame::Frame;
 use byte_fields::{put_u8, put_u16, put_u32};
 use lg_base::Memory;
 use lg_model::Shape;
-use sketchlet_wire::{Column, Upload, encode, put_shape};
-use std::alloc::{AllocError, Global};
+use sketchlet_wire::{Column, Upload, put_column, put_shape};
+use std::alloc::Global;
 
 // How many bytes the sketchlets of these columns have, which are at most 62 for each.
 fn columns_len(columns: &[Column]) -> usize
@@ -28,16 +28,15 @@ fn columns_len(columns: &[Column]) -> usize
     len
 }
 
-// Appends the sketchlets of these columns.
-fn put_columns(out: &mut Vec<u8>, columns: &[Column]) -> Result<(), AllocError>
-    ensures { OnOk result (out.new.items ≡ out.old.items ++ flat_map spelling columns.now) }
+// Writes the sketchlets of these columns, one after the other, which have that many bytes.
+fn put_columns(out: &mut [u8], columns: &[Column])
+    requires { length out.old ≡ length (flat_map spelling columns.now) }
+    ensures { out.new ≡ flat_map spelling columns.now }
 {
+    let mut at = 0;
     for column in columns {
-        let mut bytes = [0; 62];
-        let len = encode(column, &mut bytes);
-        out.extend_from_slice(&bytes[..len])?;
+        at += put_column(&mut out[at..], column);
     }
-    Ok(())
 }
 
 // The ten bytes before the columns of an upload: length, kind, host, number and count.
@@ -68,7 +67,8 @@ pub fn write_upload(alloc: Global, upload: &Upload) -> Result<Vec<u8>, Memory>
     );
     let mut out = Vec::with_capacity(alloc, len + 10)?;
     out.extend_from_slice(&head)?;
-    put_columns(&mut out, columns)?;
+    out.resize(len + 10, 0)?;
+    put_columns(&mut out[10..], columns);
     Ok(out)
 }
 
