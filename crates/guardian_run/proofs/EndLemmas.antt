@@ -102,16 +102,16 @@ record IsOther (s : Status) : Type 0 where
 
 other : (r : Refusal) → IsProper r → IsOther (status_of r)
 other refusals.BadWords is = absurd is
-other (refusals.BadScenario n why) is = record { words = λ e. cc; read = λ e. cc; device = λ e. cc; output = λ e. elim e [| inl h ↦ cc | inr h ↦ cc]; memory = λ e. cc }
+other (refusals.BadScenario n why) is = record { words = λ e. cc; read = λ e. cc; device = λ e. cc; output = λ e. elim e [ inl h ↦ cc | inr h ↦ cc ]; memory = λ e. cc }
 other refusals.ReadFault is = absurd is
 other refusals.DiskFault is = absurd is
-other refusals.NotAJournal is = record { words = λ e. cc; read = λ e. cc; device = λ e. cc; output = λ e. elim e [| inl h ↦ cc | inr h ↦ cc]; memory = λ e. cc }
-other (refusals.WrongShape kept asked) is = record { words = λ e. cc; read = λ e. cc; device = λ e. cc; output = λ e. elim e [| inl h ↦ cc | inr h ↦ cc]; memory = λ e. cc }
-other (refusals.Damaged at) is = record { words = λ e. cc; read = λ e. cc; device = λ e. cc; output = λ e. elim e [| inl h ↦ cc | inr h ↦ cc]; memory = λ e. cc }
-other (refusals.Full held more) is = record { words = λ e. cc; read = λ e. cc; device = λ e. cc; output = λ e. elim e [| inl h ↦ cc | inr h ↦ cc]; memory = λ e. cc }
+other refusals.NotAJournal is = record { words = λ e. cc; read = λ e. cc; device = λ e. cc; output = λ e. elim e [ inl h ↦ cc | inr h ↦ cc ]; memory = λ e. cc }
+other (refusals.WrongShape kept asked) is = record { words = λ e. cc; read = λ e. cc; device = λ e. cc; output = λ e. elim e [ inl h ↦ cc | inr h ↦ cc ]; memory = λ e. cc }
+other (refusals.Damaged at) is = record { words = λ e. cc; read = λ e. cc; device = λ e. cc; output = λ e. elim e [ inl h ↦ cc | inr h ↦ cc ]; memory = λ e. cc }
+other (refusals.Full held more) is = record { words = λ e. cc; read = λ e. cc; device = λ e. cc; output = λ e. elim e [ inl h ↦ cc | inr h ↦ cc ]; memory = λ e. cc }
 other refusals.Memory is = absurd is
-other (refusals.Missing s e known width) is = record { words = λ e. cc; read = λ e. cc; device = λ e. cc; output = λ e. elim e [| inl h ↦ cc | inr h ↦ cc]; memory = λ e. cc }
-other refusals.Blank is = record { words = λ e. cc; read = λ e. cc; device = λ e. cc; output = λ e. elim e [| inl h ↦ cc | inr h ↦ cc]; memory = λ e. cc }
+other (refusals.Missing s e known width) is = record { words = λ e. cc; read = λ e. cc; device = λ e. cc; output = λ e. elim e [ inl h ↦ cc | inr h ↦ cc ]; memory = λ e. cc }
+other refusals.Blank is = record { words = λ e. cc; read = λ e. cc; device = λ e. cc; output = λ e. elim e [ inl h ↦ cc | inr h ↦ cc ]; memory = λ e. cc }
 
 -- ---- an output
 
@@ -129,7 +129,7 @@ output_comes asked source disk text said file (inr is) = is
 drawn : (asked : Option Command) (P Q : Type 0) (source : Change) → (P → Q) → Draws asked P source → Draws asked Q source
 drawn asked P Q source move draws = record {
   unread = draws.unread;
-  took = λ reads. elim (draws.took reads) as (λ _. Q ⊎ IfSome source.old (λ input. IsTaken input source.new)) [| inl h ↦ inl (move h) | inr h ↦ inr h];
+  took = λ reads. elim (draws.took reads) as (λ _. Q ⊎ IfSome source.old (λ input. IsTaken input source.new)) [ inl h ↦ inl (move h) | inr h ↦ inr h ];
   never_falls = draws.never_falls;
 }
 
@@ -379,7 +379,7 @@ given_text command next source disk o reads comes true_of calm gives = record {
   ];
   draws = record {
     unread = λ e. absurd (both_ways (reads_text (Some command)) reads e);
-    took = λ _. elim gives.took as (λ _. ShortOf o ⊎ IfSome source.old (λ input. IsTaken input source.new)) [| inl h ↦ inl (short_text source o h) | inr h ↦ inr h];
+    took = λ _. elim gives.took as (λ _. ShortOf o ⊎ IfSome source.old (λ input. IsTaken input source.new)) [ inl h ↦ inl (short_text source o h) | inr h ↦ inr h ];
     never_falls = gives.never_falls;
   };
   disk_never_falls = calm;

@@ -44,7 +44,12 @@ pub text_fault : (next : Scenario → Outcome → Type 0) (source : Change) (fau
     IfSome source.old (λ input. Answers (Err fault) (reading input)) → IfSome source.old (λ input. Took (Err fault) input source.new) →
     (fault ≡ text.ReadFault → HasFailed source) → source.faults_old ≤ source.faults_new → GivesOfText next source (Err (refusal_of fault))
 text_fault next source (text.Bad n why) says took cause calm = record {
-  said = Err (n, why); input = says; is = inr refl; took = inr took; never_falls = calm; truth = λ e. cc;
+  said = Err (n, why);
+  input = says;
+  is = inr refl;
+  took = inr took;
+  never_falls = calm;
+  truth = λ e. cc;
 }
 text_fault next source text.ReadFault says took cause calm = record {
   said = said_by source.old;
@@ -55,20 +60,35 @@ text_fault next source text.ReadFault says took cause calm = record {
   truth = λ e. cc;
 }
 text_fault next source text.Memory says took cause calm = record {
-  said = said_by source.old; input = said_is source.old; is = inl (inr refl); took = inl (inr refl); never_falls = calm; truth = λ e. cc;
+  said = said_by source.old;
+  input = said_is source.old;
+  is = inl (inr refl);
+  took = inl (inr refl);
+  never_falls = calm;
+  truth = λ e. cc;
 }
 
 pub text_memory : (next : Scenario → Outcome → Type 0) (source : Change) → source.faults_old ≤ source.faults_new →
     GivesOfText next source (Err refusals.Memory)
 text_memory next source calm = record {
-  said = said_by source.old; input = said_is source.old; is = inl (inr refl); took = inl (inr refl); never_falls = calm; truth = λ e. cc;
+  said = said_by source.old;
+  input = said_is source.old;
+  is = inl (inr refl);
+  took = inl (inr refl);
+  never_falls = calm;
+  truth = λ e. cc;
 }
 
 pub text_comes : (next : Scenario → Outcome → Type 0) (source : Change) (w : Scenario) (o : Outcome) →
     IfSome source.old (λ input. reading input ≡ Ok w) → IfSome source.old (λ input. IsTaken input source.new) → IsWhole w → next w o →
     (IsOk o → IsTrueRun w) → source.faults_old ≤ source.faults_new → GivesOfText next source o
 text_comes next source w o says took whole is truth calm = record {
-  said = Ok w; input = says; is = inr (whole, is); took = inr took; never_falls = calm; truth = truth;
+  said = Ok w;
+  input = says;
+  is = inr (whole, is);
+  took = inr took;
+  never_falls = calm;
+  truth = truth;
 }
 
 -- ---- a booking that is refused
@@ -181,15 +201,19 @@ pub unbuilt_of : (s e : ℕ) (disk : DiskChange) (b : BookState) (r : Refusal) �
 unbuilt_of s e disk b (refusals.Missing switch epoch known width) found is calm = record {
   file = found.file;
   held = found.held;
-  is = inr (is.0, is.1, record {
-    shape = b.shape;
-    rs = records b.entries;
-    has = found.is.1;
-    written = found.is.0;
-    known_is = is.2.known_is;
-    width_is = is.2.width_is;
-    few = is.2.few;
-  });
+  is = inr (
+    is.0,
+    is.1,
+    record {
+      shape = b.shape;
+      rs = records b.entries;
+      has = found.is.1;
+      written = found.is.0;
+      known_is = is.2.known_is;
+      width_is = is.2.width_is;
+      few = is.2.few;
+    },
+  );
   never_falls = calm;
 }
 unbuilt_of s e disk b refusals.Memory found is calm = file_memory (Rebuilds s e) disk calm
@@ -210,7 +234,14 @@ rebuilding_of s e disk b sketch text found all rebuilt is calm = record {
   file = found.file;
   held = found.held;
   is = inr (record {
-    shape = b.shape; rs = records b.entries; has = found.is.1; written = found.is.0; all = all; sketch = sketch; rebuilt = rebuilt; is = is;
+    shape = b.shape;
+    rs = records b.entries;
+    has = found.is.1;
+    written = found.is.0;
+    all = all;
+    sketch = sketch;
+    rebuilt = rebuilt;
+    is = is;
   });
   never_falls = calm;
 }
@@ -252,13 +283,13 @@ ask_unread source disk o calm gives never = record {
   input = gives.input;
   held = λ _. refl;
   is = elim gives.is as (λ _. Rattle.guardian_run.specs.Giving.IsFree (Some commands.Ask) source disk o ⊎ Comes (Some commands.Ask) gives.said disk.seen o) [
-    | inl h ↦ inl (elim h as (λ _. Rattle.guardian_run.specs.Giving.IsFree (Some commands.Ask) source disk o) [| inl x ↦ inl (x.0, refl, x.1) | inr x ↦ inr (inr x)])
+    | inl h ↦ inl (elim h as (λ _. Rattle.guardian_run.specs.Giving.IsFree (Some commands.Ask) source disk o) [ inl x ↦ inl (x.0, refl, x.1) | inr x ↦ inr (inr x) ])
     | inr h ↦ inr h
   ];
   draws = record {
     unread = λ e. cc;
     took = λ _. elim gives.took as (λ _. ((o ≡ Err refusals.ReadFault) ⊎ (o ≡ Err refusals.Memory)) ⊎ IfSome source.old (λ input. IsTaken input source.new)) [
-      | inl h ↦ inl (elim h as (λ _. (o ≡ Err refusals.ReadFault) ⊎ (o ≡ Err refusals.Memory)) [| inl x ↦ inl x.0 | inr x ↦ inr x])
+      | inl h ↦ inl (elim h as (λ _. (o ≡ Err refusals.ReadFault) ⊎ (o ≡ Err refusals.Memory)) [ inl x ↦ inl x.0 | inr x ↦ inr x ])
       | inr h ↦ inr h
     ];
     never_falls = gives.never_falls;

@@ -69,7 +69,7 @@ one_fault asked file r q this that =
     let a = fault_of asked file r this in
     let b = fault_of asked file q that in
     let same = one_answer asked ROOM file (Err a.fault) (Err b.fault) a.finds b.finds (λ e. a.told (one_error a.fault faults.Memory e))
-        (λ e. b.told (one_error b.fault faults.Memory e)) in
+    (λ e. b.told (one_error b.fault faults.Memory e)) in
     a.is ∙ ap file_refusal (one_error a.fault b.fault same) ∙ sym b.is
 
 no_fault : (asked : Option Shape) (file : List ℕ) (shape : Shape) (rs : List UploadData) (r : Refusal) → Suits asked shape → HasRecords file shape rs →
@@ -109,8 +109,8 @@ one_sketch : (rs : List UploadData) (shape : Shape) (s e : ℕ) (x y : SketchSta
     IsRebuilt (look_in (content_in rs)) shape s e y → x ≡ y
 one_sketch rs shape s e x y this that =
     let tables = one_table shape x.table y.table this.table that.table
-        (λ i j low under. some_same (look_in (content_in rs) s e j) (bucket_at x.table i j) (bucket_at y.table i j) (λ (v : Cells). bucket_in v.buckets i)
-        (this.buckets i j low under) (that.buckets i j low under)) in
+    (λ i j low under. some_same (look_in (content_in rs) s e j) (bucket_at x.table i j) (bucket_at y.table i j) (λ (v : Cells). bucket_in v.buckets i)
+    (this.buckets i j low under) (that.buckets i j low under)) in
     let shapes = this.same ∙ sym that.same in
     λ j. record { shape = shapes j; table = tables j }
 
@@ -118,22 +118,23 @@ one_rebuilding : (s e : ℕ) (file a b : List ℕ) → IsRebuilding s e file a �
 one_rebuilding s e file a b this that =
     let same = law file this.shape that.shape this.rs that.rs this.written this.has.stands that.has.stands in
     let moved : IsRebuilt (look_in (content_in this.rs)) this.shape s e that.sketch =
-        subst (λ (x : Shape). IsRebuilt (look_in (content_in this.rs)) x s e that.sketch) (sym same.0)
-        (subst (λ (l : List UploadData). IsRebuilt (look_in (content_in l)) that.shape s e that.sketch) (sym same.1) that.rebuilt) in
+    subst (λ (x : Shape). IsRebuilt (look_in (content_in this.rs)) x s e that.sketch) (sym same.0)
+    (subst (λ (l : List UploadData). IsRebuilt (look_in (content_in l)) that.shape s e that.sketch) (sym same.1) that.rebuilt) in
     this.is ∙ ap (sketch_of s e) (one_sketch this.rs this.shape s e this.sketch that.sketch this.rebuilt moved) ∙ sym that.is
 
 built_or_missing : (s e : ℕ) (file text : List ℕ) (known width : ℕ) → IsRebuilding s e file text → IsMissing s e file known width → ⊥
 built_or_missing s e file text known width this that =
     let same = law file this.shape that.shape this.rs that.rs this.written this.has.stands that.has.stands in
     let all : known ≡ width = that.known_is ∙ ap (λ (l : List UploadData). known_in l s e) (sym same.1) ∙ this.all
-        ∙ ap (λ (x : Shape). x.width) same.0 ∙ sym that.width_is in
+    ∙ ap (λ (x : Shape). x.width) same.0 ∙ sym that.width_is in
     absurd (omega (arith, all, that.few))
 
 one_missing : (s e : ℕ) (file : List ℕ) (k w l x : ℕ) → IsMissing s e file k w → IsMissing s e file l x → (k ≡ l) × (w ≡ x)
 one_missing s e file k w l x this that =
-    let same = law file this.shape that.shape this.rs that.rs this.written this.has.stands that.has.stands in
-    (this.known_is ∙ ap (λ (rs : List UploadData). known_in rs s e) same.1 ∙ sym that.known_is,
-     this.width_is ∙ ap (λ (y : Shape). y.width) same.0 ∙ sym that.width_is)
+    let same = law file this.shape that.shape this.rs that.rs this.written this.has.stands that.has.stands in (
+      this.known_is ∙ ap (λ (rs : List UploadData). known_in rs s e) same.1 ∙ sym that.known_is,
+      this.width_is ∙ ap (λ (y : Shape). y.width) same.0 ∙ sym that.width_is,
+    )
 
 -- a sketch is not rebuilt since columns are missing, or since the file is blank, or since it has a fault
 data Unbuilt (s e : ℕ) (file : List ℕ) : Refusal → Type 0 where

@@ -450,27 +450,25 @@ fn a_book_that_is_full(rt: HostRuntime) -> Result<(), Fail> {
 }
 
 // The file of ONE's network after `packet 1 1500 20`, `end 1`, `packet 1 100 5`: one record of one column.
-const ONE_FILE: &[u8] =
-    b"\x01LGB1\x02\x00\x01\x00\x00\x00\x00\x00\x00\x00\x00\x00\x01\
+const ONE_FILE: &[u8] = b"\x01LGB1\x02\x00\x01\x00\x00\x00\x00\x00\x00\x00\x00\x00\x01\
     \x00\x01\x00\x00\x00\x00\x01\x00\x01\x00\x00\x00\x00\x00\x00\x00\x00\x05\xdc\x00\x14\x00\x00\x05\xdc\x00\x14\x00";
 
 // The same in a sketch of two columns: column 0 of FOUR's network, and both columns of a later run.
-const FOUR_FILE: &[u8] =
-    b"\x01LGB1\x02\x00\x02\x00\x00\x00\x00\x00\x00\x00\x00\x00\x01\
+const FOUR_FILE: &[u8] = b"\x01LGB1\x02\x00\x02\x00\x00\x00\x00\x00\x00\x00\x00\x00\x01\
     \x00\x01\x00\x00\x00\x00\x01\x00\x01\x00\x00\x00\x00\x00\x00\x00\x00\x00\x96\x00\x1e\x00\x00\x00\x32\x00\x1e\x00";
-const BOTH_FILE: &[u8] =
-    b"\x01LGB1\x02\x00\x02\x00\x00\x00\x00\x00\x00\x00\x00\x00\x01\
+
+const BOTH_FILE: &[u8] = b"\x01LGB1\x02\x00\x02\x00\x00\x00\x00\x00\x00\x00\x00\x00\x01\
     \x00\x01\x00\x00\x00\x00\x02\x00\x01\x00\x00\x00\x00\x00\x01\x00\x00\x00\x05\x00\x01\x00\x00\x00\x64\x00\x0a\
     \x00\x01\x00\x00\x00\x00\x00\x00\x00\x00\x00\x96\x00\x1e\x00\x00\x00\x32\x00\x1e\x00";
 
 const ONE_REST: &str = "packet 1 1500 20\nend 1\npacket 1 100 5\nask 1 1 0\ndone\n";
+
 const FOUR_REST: &str = "ask 1 1 0\nask 2 1 0\nask 3 1 0\ndone\n";
 
 #[test]
 fn books_that_are_read(rt: HostRuntime) -> Result<(), Fail> {
     let alloc = rt.alloc();
-    let unknown =
-        "flow 1 switch 1 epoch 0 rows 0 of 2 bytes unknown delay unknown\ncolumns 0\n";
+    let unknown = "flow 1 switch 1 epoch 0 rows 0 of 2 bytes unknown delay unknown\ncolumns 0\n";
     let known = "flow 1 switch 1 epoch 0 rows 2 of 2 bytes 1500 delay 20\ncolumns 1\n";
     let some = "flow 1 switch 1 epoch 0 rows 1 of 2 bytes 150 delay 30\n\
         flow 2 switch 1 epoch 0 rows 2 of 2 bytes 50 delay 30\n\
@@ -501,7 +499,11 @@ fn books_that_are_read(rt: HostRuntime) -> Result<(), Fail> {
         ("rebuild 1 0", "", "", b"", Status::Missing, blank),
     ] {
         let (found, written) = asked_of(alloc, line, joined(alloc, head, rest)?, book, &[])?;
-        assert_eq!(rt; (found, written.as_slice()), (status, want.as_bytes()), "{line}");
+        assert_eq!(rt;
+            (found, written.as_slice()),
+            (status, want.as_bytes()),
+            "{line}"
+        );
     }
     Ok(())
 }
@@ -523,8 +525,7 @@ fn books_that_cannot_be_read(rt: HostRuntime) -> Result<(), Fail> {
         ("list", &ONE_FILE[..45], Status::Damaged, no_body),
         ("run", b"", Status::BadWords, ""),
     ] {
-        let (found, written) =
-            asked_of(alloc, line, joined(alloc, ONE, ONE_REST)?, book, &[])?;
+        let (found, written) = asked_of(alloc, line, joined(alloc, ONE, ONE_REST)?, book, &[])?;
         assert_eq!(rt; found, status, "{line}");
         if status != Status::BadWords {
             assert_eq!(rt; written.as_slice(), want.as_bytes(), "{line}");
