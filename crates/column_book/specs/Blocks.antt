@@ -1,5 +1,5 @@
 -- Columns in blocks of 16 neighbouring indexes.
-use Rattle.std.specs.Prelude.{ℕ, ◌+◌, ◌*◌, ◌/◌, ◌%◌, ◌==◌, List, [], Option, None, Some, Box, IsSome, if◌then◌else◌, slice_index_or}
+use Rattle.std.specs.Prelude.{ℕ, ◌/◌, ◌%◌, ◌==◌, List, [], Option, None, Some, Box, IsSome, if◌then◌else◌, slice_index_or}
 use Rattle.std.specs.Global.{Global}
 use Rattle.std.specs.Int.{bit_at}
 use Rattle.std.specs.Option.{option_map, option_and_then}
@@ -19,10 +19,6 @@ spot k = record { switch = k.switch; epoch = k.epoch; nth = k.index / 16 }
 -- Spots are ordered by switch, then by epoch, then by number.
 abbrev pub spot_cmp : Spot → Spot → Ordering
 spot_cmp a b = ordering_then (nat_cmp a.switch b.switch) (ordering_then (nat_cmp a.epoch b.epoch) (nat_cmp a.nth b.nth))
-
--- Its three numbers as one, by which spots are ordered in the same way.
-abbrev pub number_of : Spot → ℕ
-number_of s = s.switch * 281474976710656 + s.epoch * 65536 + s.nth
 
 -- The eight buckets at a place of a block, if its bit is set.
 abbrev pub kept_in : Block → ℕ → Option (List Bucket)

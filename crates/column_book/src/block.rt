@@ -1,56 +1,16 @@
 //! A block: the columns of 16 neighbouring indexes of one switch and epoch.
-ghost use Rattle.std.specs.Prelude.{◌≡◌, ◌<◌, ◌≤◌, ◌^◌, ◌==◌, ◌&&◌, ℕ, None, Some, IfSome, IfNone, is_some, is_none, option_copied, true, if◌then◌else◌};
-ghost use Rattle.std.specs.Cmp.{partial_order_from_own_ties};
-ghost use Rattle.std.specs.Cmp.Rules.{comparing};
-ghost use Rattle.std.specs.Ordering.{nat_cmp, on, then_cmp, as_partial_cmp};
-ghost use Rattle.std.proofs.Common.{rules};
-ghost use Rattle.column_book.specs.Blocks.{spot, number_of, kept_in};
+ghost use Rattle.std.specs.Prelude.{◌≡◌, ◌<◌, ◌≤◌, ◌==◌, ◌&&◌, ℕ, None, Some, IfSome, IfNone, is_some, is_none, option_copied, true, if◌then◌else◌};
+ghost use Rattle.column_book.specs.Blocks.{spot, kept_in};
 
 use lg_model::{Bucket, Key};
-use std::cmp::Ordering;
 
 /// Where a block stands. Spots are ordered by switch, then by epoch, then by number, as keys are.
-#[derive(Clone, Copy, Debug, PartialEq, Eq)]
+#[derive(Clone, Copy, Debug, PartialEq, Eq, PartialOrd, Ord)]
 pub(crate) struct Spot {
     pub(crate) switch: u16,
     pub(crate) epoch: u32,
     // The number of the block: its indexes are `16 * nth` to `16 * nth + 15`.
     pub(crate) nth: u16,
-}
-
-impl Spot {
-    // The three as one number, which takes one comparison in place of three.
-    fn number(&self) -> u64
-        ensures value { result ≡ number_of self.now }
-        ensures fits { (self.now.epoch < 2 ^ 32) × (self.now.nth < 2 ^ 16) }
-    {
-        self.switch as u64 * 281_474_976_710_656 + self.epoch as u64 * 65_536 + self.nth as u64
-    }
-}
-
-impl Ord for Spot {
-    ghost cmp = { then_cmp (on (λ s. s.switch) nat_cmp) (then_cmp (on (λ s. s.epoch) nat_cmp) (on (λ s. s.nth) nat_cmp)) };
-
-    ghost total = { Prim.search (comparing, rules) };
-
-    ghost matches_partial_cmp = { Prim.search (comparing, rules) };
-
-    ghost matches_eq = { Prim.search (comparing, rules) };
-
-    fn cmp(&self, other: &Spot) -> Ordering {
-        self.number().cmp(&other.number())
-    }
-}
-
-impl PartialOrd for Spot {
-    ghost partial_cmp = { as_partial_cmp (then_cmp (on (λ s. s.switch) nat_cmp)
-        (then_cmp (on (λ s. s.epoch) nat_cmp) (on (λ s. s.nth) nat_cmp))) };
-
-    ghost laws = { partial_order_from_own_ties (Prim.search (comparing, rules)) (Prim.search (comparing, rules)) };
-
-    fn partial_cmp(&self, other: &Spot) -> Option<Ordering> {
-        Some(self.cmp(other))
-    }
 }
 
 /// The block of a key.
