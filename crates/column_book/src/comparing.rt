@@ -59,7 +59,12 @@ fn front(columns: &[Column]) -> Spot {
 }
 
 // The block at a spot. The last one isn't looked up again.
-fn block_next<'a>(blocks: &'a Blocks, last: &Spot, seen: Option<&'a Block>, spot: &Spot) -> Option<&'a Block>
+fn block_next<'a>(
+    blocks: &'a Blocks,
+    last: &Spot,
+    seen: Option<&'a Block>,
+    spot: &Spot,
+) -> Option<&'a Block>
     requires { option_copied seen ≡ block_at blocks.now.map.entries last.now }
     ensures { option_copied result ≡ block_at blocks.now.map.entries spot.now }
 {
