@@ -65,7 +65,7 @@ all_fit dims (c ∷ cs) h =
       | false ↦ λ same none. absurd (cc)
     ]) refl h
 
-same_bucket-Decides : (a b : Bucket) → Decides (same_bucket a b) (a ≡ b)
+pub same_bucket-Decides : (a b : Bucket) → Decides (same_bucket a b) (a ≡ b)
 same_bucket-Decides a b =
     let both = Decides-and _ _ (Decides-eqb a.bytes b.bytes) (Decides-eqb a.delay b.delay) in (
       (λ h. let same = both.0 h in λ i. record { bytes = same.0 i; delay = same.1 i }),

@@ -67,6 +67,17 @@ grown_more es0 keys0 es1 keys1 es2 keys2 new c a b = record {
       (All-weaker (λ (x : Column). kept_at es1 x.key ≡ Some (filled x.dims x.cells)) (λ (x : Column). kept_at es2 x.key ≡ Some (filled x.dims x.cells)) (λ x h. b.stays x.key (filled x.dims x.cells) h) new a.put) b.put;
 }
 
+-- no column more
+pub grown_again : (es0 : Made) (keys0 : List Key) (es1 : Made) (keys1 : List Key) (es2 : Made) (keys2 : List Key) (new : List Column) →
+    IsGrown es0 keys0 es1 keys1 new → IsGrown es1 keys1 es2 keys2 [] → IsGrown es0 keys0 es2 keys2 new
+grown_again es0 keys0 es1 keys1 es2 keys2 new a b = record {
+  all = b.all ∙ append-nil keys1 ∙ a.all;
+  known = b.known;
+  made = λ s h. b.made s (a.made s h);
+  stays = λ q bs h. b.stays q bs (a.stays q bs h);
+  put = All-weaker (λ (x : Column). kept_at es1 x.key ≡ Some (filled x.dims x.cells)) (λ (x : Column). kept_at es2 x.key ≡ Some (filled x.dims x.cells)) (λ x h. b.stays x.key (filled x.dims x.cells) h) new a.put;
+}
+
 -- ---- which columns of an upload are new
 
 pub not_among : (p : Column → Bool) (k : Key) (cs : List Column) → holds_key k cs ≡ false → list_any (same_column_key k) (keys_of (filter p cs)) ≡ false

@@ -9,6 +9,7 @@ pub mod Grown
 pub mod Stored
 pub mod Positions
 pub mod Counting
+pub mod Alike
 pub mod Applying
 pub mod Walks
 pub mod Sizes

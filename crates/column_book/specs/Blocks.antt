@@ -2,7 +2,7 @@
 use Rattle.std.specs.Prelude.{ℕ, ◌/◌, ◌%◌, ◌==◌, List, [], Option, None, Some, Box, IsSome, if◌then◌else◌, slice_index_or}
 use Rattle.std.specs.Global.{Global}
 use Rattle.std.specs.Int.{bit_at}
-use Rattle.std.specs.Option.{option_and_then}
+use Rattle.std.specs.Option.{option_map, option_and_then}
 use Rattle.std.specs.Ordering.{nat_cmp, ordering_then}
 use Rattle.std.specs.declared.cmp.Ordering.{Ordering}
 use Rattle.std.specs.BTreeMap.{is_at}
@@ -31,6 +31,10 @@ Made = List (Spot × Box Block Global)
 -- A block was made there.
 abbrev pub IsMade : Made → Spot → Type 0
 IsMade es s = IsSome (lookup (is_at (spot_cmp s)) es)
+
+-- The block there, if it was made.
+abbrev pub block_at : Made → Spot → Option Block
+block_at es s = option_map (λ (b : Box Block Global). b.value) (lookup (is_at (spot_cmp s)) es)
 
 -- The eight buckets under a key, if they are there.
 abbrev pub kept_at : Made → Key → Option (List Bucket)

@@ -63,6 +63,10 @@ pub record IsKept (width room : ℕ) (es : Made) (keys : List Key) (rows : List 
 abbrev pub is_free : Made → Column → Bool
 is_free es c = is_none (kept_at es c.key)
 
+-- What is kept under the key of a column, if anything, are the column's own buckets.
+abbrev pub IsAsKept : Made → Column → Type 0
+IsAsKept es c = (bs : List Bucket) → kept_at es c.key ≡ Some bs → bs ≡ filled c.dims c.cells
+
 -- The keys of columns.
 abbrev pub keys_of : List Column → List Key
 keys_of cs = map (λ (c : Column). c.key) cs

@@ -1,5 +1,5 @@
 //! A block: the columns of 16 neighbouring indexes of one switch and epoch.
-ghost use Rattle.std.specs.Prelude.{◌≡◌, ◌<◌, ◌≤◌, ◌==◌, ℕ, None, Some, IfSome, IfNone, is_some, true, if◌then◌else◌};
+ghost use Rattle.std.specs.Prelude.{◌≡◌, ◌<◌, ◌≤◌, ◌==◌, ◌&&◌, ℕ, None, Some, IfSome, IfNone, is_some, is_none, option_copied, true, if◌then◌else◌};
 ghost use Rattle.column_book.specs.Blocks.{spot, kept_in};
 
 use lg_model::{Bucket, Key};
@@ -52,24 +52,37 @@ impl Block {
 
     /// The column at a place below 16, if it is there.
     #[tactic(auto, using(std::proofs::lemmas::Nat::Bits::shr_and_one))]
-    pub(crate) fn get(&self, place: u16) -> Option<[Bucket; 8]>
+    pub(crate) fn get(&self, place: u16) -> Option<&[Bucket; 8]>
         requires { place < 16 }
-        ensures { result ≡ kept_in self.now place }
+        ensures { option_copied result ≡ kept_in self.now place }
     {
         if (self.mask >> place) & 1 == 1 {
-            Some(self.columns[place as usize])
+            Some(&self.columns[place as usize])
         } else {
             None
         }
     }
 
-    /// Puts a column at a place below 16.
-    pub(crate) fn put(&mut self, place: u16, buckets: [Bucket; 8])
+    /// Whether no column is at a place below 16.
+    pub(crate) fn lacks(&self, place: u16) -> bool
         requires { place < 16 }
-        ensures { (j : ℕ) → kept_in self.new j ≡ (if place == j then Some buckets else kept_in self.old j) }
+        ensures { result ≡ is_none (kept_in self.now place) }
     {
-        self.mask |= 1 << place;
-        self.columns[place as usize] = buckets;
+        self.get(place).is_none()
+    }
+
+    /// Puts a column at a place below 16, where there is none. Whether there was none.
+    pub(crate) fn put(&mut self, place: u16, buckets: &[Bucket; 8]) -> bool
+        requires { place < 16 }
+        ensures told { result ≡ is_none (kept_in self.old place) }
+        ensures put { (j : ℕ) → kept_in self.new j ≡ (if result && place == j then Some buckets.now else kept_in self.old j) }
+    {
+        let free = self.lacks(place);
+        if free {
+            self.mask |= 1 << place;
+            self.columns[place as usize] = *buckets;
+        }
+        free
     }
 
     /// The first place from `from` on, at most 16, at which a column is there.

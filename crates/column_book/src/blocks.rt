@@ -1,9 +1,9 @@
 //! Blocks in the order of their spots.
-ghost use Rattle.std.specs.Prelude.{◌≡◌, [], OnOk, Some, is_none, if◌then◌else◌};
+ghost use Rattle.std.specs.Prelude.{◌≡◌, ◌&&◌, [], OnOk, Some, is_none, option_copied, if◌then◌else◌};
 ghost use Rattle.lg_model.specs.declared.column.Key.{Key as GhostKey};
 ghost use Rattle.sketchlet_wire.specs.Uploads.{same_column_key};
 ghost use Rattle.column_book.specs.declared.block.Spot.{Spot as GhostSpot};
-ghost use Rattle.column_book.specs.Blocks.{spot, kept_at, IsMade};
+ghost use Rattle.column_book.specs.Blocks.{spot, block_at, kept_at, IsMade};
 
 use crate::block::{Block, Spot, spot_of};
 use lg_base::Memory;
@@ -29,11 +29,19 @@ impl Blocks {
         }
     }
 
-    /// The column under a key, if it is there.
-    pub(crate) fn get(&self, key: &Key) -> Option<[Bucket; 8]>
-        ensures { result ≡ kept_at self.now.map.entries key.now }
+    /// The block at a spot, if it was made.
+    pub(crate) fn block(&self, spot: &Spot) -> Option<&Block>
+        ensures { option_copied result ≡ block_at self.now.map.entries spot.now }
     {
-        let block: &Block = self.map.get(&spot_of(key))?;
+        let block: &Block = self.map.get(spot)?;
+        Some(block)
+    }
+
+    /// The column under a key, if it is there.
+    pub(crate) fn get(&self, key: &Key) -> Option<&[Bucket; 8]>
+        ensures { option_copied result ≡ kept_at self.now.map.entries key.now }
+    {
+        let block = self.block(&spot_of(key))?;
         block.get(key.index % 16)
     }
 
@@ -70,17 +78,18 @@ impl Blocks {
         }
     }
 
-    /// Puts a column under a key whose block was made. Takes no memory.
-    pub(crate) fn put(&mut self, key: &Key, buckets: [Bucket; 8])
+    /// Puts a column under a key where there is none, the block being made. Whether there was none. Takes no memory.
+    pub(crate) fn put(&mut self, key: &Key, buckets: &[Bucket; 8]) -> bool
         requires { IsMade self.old.map.entries (spot key.now) }
+        ensures told { result ≡ is_none (kept_at self.old.map.entries key.now) }
         ensures put { (q : GhostKey) → kept_at self.new.map.entries q ≡
-            (if same_column_key key.now q then Some buckets else kept_at self.old.map.entries q) }
+            (if result && same_column_key key.now q then Some buckets.now else kept_at self.old.map.entries q) }
         ensures stays { (s : GhostSpot) → IsMade self.old.map.entries s → IsMade self.new.map.entries s }
     {
         let Some(block) = self.map.get_mut(&spot_of(key)) else {
             unreachable!()
         };
         let block: &mut Block = block;
-        block.put(key.index % 16, buckets);
+        block.put(key.index % 16, buckets)
     }
 }

@@ -128,6 +128,6 @@ impl Book {
         ensures named { IfSome result (λ c. (c.key ≡ key.now) × (c.dims ≡ dims_of self.now.shape)) }
     {
         let buckets = self.blocks.get(key)?;
-        Column::new(*key, dims(&self.shape), buckets)
+        Column::new(*key, dims(&self.shape), *buckets)
     }
 }

@@ -1,14 +1,16 @@
 //! Whether a book takes an upload (docs/DEFINITIONS.md, Apply).
-ghost use Rattle.std.specs.Prelude.{◌≡◌, ◌≤◌, All, is_none, length, map};
-ghost use Rattle.lg_model.specs.Answer.{found};
+ghost use Rattle.std.specs.Prelude.{◌≡◌, ◌≤◌, All, None, length, map, true};
+ghost use Rattle.std.specs.List.{AllByRecursion};
 ghost use Rattle.lg_model.specs.Columns.{dims_of};
+ghost use Rattle.sketchlet_wire.specs.Spelling.{IsColumn};
 ghost use Rattle.column_book.specs.Entries.{records, content};
 ghost use Rattle.column_book.specs.Applying.{is_new, new_columns, first_fault, mask_of, checked};
 ghost use Rattle.column_book.specs.Applying.{misfit as misfit_of, conflict as conflict_of};
 
 use crate::book::{Book, dims};
+use crate::comparing::{Comparison, compare_all};
 use crate::fault::BookFault;
-use lg_model::{Dims, Key};
+use lg_model::Dims;
 use sketchlet_wire::{Column, Upload};
 
 // The fault of a column that is of a sketch of another size.
@@ -36,13 +38,6 @@ fn first_misfit(dims: Dims, columns: &[Column]) -> Option<BookFault>
 }
 
 impl Book {
-    /// Whether no column is kept under a key.
-    pub(crate) fn lacks(&self, key: &Key) -> bool
-        ensures { result ≡ is_none (found (content self.now.entries) key.now) }
-    {
-        self.find(key).is_none()
-    }
-
     // The fault of a column whose key is kept with other buckets.
     fn conflict(&self, column: &Column) -> Option<BookFault>
         requires { column.now.dims ≡ dims_of self.now.shape }
@@ -73,33 +68,32 @@ impl Book {
         None
     }
 
-    // How many of at most 16 columns are new.
-    fn count_new(&self, columns: &[Column]) -> u32
-        requires { length columns.now ≤ 16 }
-        ensures value { result ≡ length (new_columns (content self.now.entries) columns.now) }
-        ensures few { result ≤ 16 }
+    // Which of at most 16 columns of the book's size are new, and whether none of the others is in conflict.
+    fn compare(&self, columns: &[Column]) -> Comparison
+        requires few { length columns.now ≤ 16 }
+        requires each { AllByRecursion IsColumn columns.now }
+        requires sized { All (λ c. c.dims ≡ dims_of self.now.shape) columns.now }
+        ensures mask { result.mask ≡ mask_of (map (is_new (content self.now.entries)) columns.now) }
+        ensures count { result.count ≡ length (new_columns (content self.now.entries) columns.now) }
+        ensures few { result.count ≤ 16 }
+        ensures same { result.same ≡ true →
+            first_fault (conflict_of (dims_of self.now.shape) (content self.now.entries)) columns.now ≡ None }
     {
-        let mut count = 0;
-        for column in columns {
-            if self.lacks(&column.key()) {
-                count += 1;
-            }
-        }
-        count
+        compare_all(&self.blocks, columns)
     }
 
-    // Which of at most 16 columns are new: bit k for column k.
-    fn mask(&self, columns: &[Column]) -> u16
-        requires { length columns.now ≤ 16 }
-        ensures { result ≡ mask_of (map (is_new (content self.now.entries)) columns.now) }
+    // The first conflict of columns that were compared. They are gone over again only where one differs.
+    fn conflict_in(&self, found: &Comparison, columns: &[Column]) -> Option<BookFault>
+        requires sized { All (λ c. c.dims ≡ dims_of self.now.shape) columns.now }
+        requires same { found.now.same ≡ true →
+            first_fault (conflict_of (dims_of self.now.shape) (content self.now.entries)) columns.now ≡ None }
+        ensures { result ≡ first_fault (conflict_of (dims_of self.now.shape) (content self.now.entries)) columns.now }
     {
-        let mut mask = 0u16;
-        for n in 0..columns.len() {
-            if self.lacks(&columns[n].key()) {
-                mask += 1 << n;
-            }
+        if found.same {
+            None
+        } else {
+            self.first_conflict(columns)
         }
-        mask
     }
 
     /// Whether the book takes an upload: which of its columns are new, or the first fault. `WrongShape` comes before
@@ -111,15 +105,16 @@ impl Book {
         if let Some(fault) = first_misfit(dims(&self.shape()), columns) {
             return Err(fault);
         }
-        if let Some(fault) = self.first_conflict(columns) {
+        let found = self.compare(columns);
+        if let Some(fault) = self.conflict_in(&found, columns) {
             return Err(fault);
         }
         let room = self.room();
         let held = self.count();
-        let more = self.count_new(columns);
+        let more = found.count;
         if held + more > room {
             return Err(BookFault::Full { held, more });
         }
-        Ok(self.mask(columns))
+        Ok(found.mask)
     }
 }

@@ -18,6 +18,7 @@ mod block;
 mod blocks;
 mod book;
 mod checking;
+mod comparing;
 mod entry;
 mod fault;
 mod head;

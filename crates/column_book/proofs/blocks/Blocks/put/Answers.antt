@@ -15,8 +15,8 @@ returns-clause-put c =
     let new = (c.get_mut.follows.lender w).entries in
     let had : Some b ≡ at_spot old c.spot_of.result = c.in-Some.ensures.value in
     let up : IsUpdated old new c.spot_of.result w = record { at = ((c.get_mut.follows.holds w).3 (ap is_some (sym had))).0 } in
-    kept_put old new c.args.key.now b w c.args.buckets (subst (λ (s : Spot). IsUpdated old new s w) c.spot_of.ensures up)
-    (subst (λ (s : Spot). at_spot old s ≡ Some b) c.spot_of.ensures (sym had)) (rw (← c.deref_mut-block.ensures.value) c.put.ensures)
+    kept_put old new c.args.key.now b w c.args.buckets.now c.put.result (subst (λ (s : Spot). IsUpdated old new s w) c.spot_of.ensures up)
+    (subst (λ (s : Spot). at_spot old s ≡ Some b) c.spot_of.ensures (sym had)) (rw (← c.deref_mut-block.ensures.value) c.put.ensures.put)
 
 pub returns-clause-stays : goal.returns-clause-stays
 returns-clause-stays c =
