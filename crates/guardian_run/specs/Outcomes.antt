@@ -12,7 +12,7 @@ use Rattle.column_book.specs.declared.book.TheConstants.{ROOM}
 use Rattle.column_book.specs.declared.fault.BookFault.TheVariants as book
 use Rattle.column_book.specs.Entries.{content_in, columns_in, is_of}
 use Rattle.flow_query.specs.Rebuilt.{IsRebuilt}
-use Rattle.book_file.specs.declared.found.OpenFault.TheVariants as file
+use Rattle.book_file.specs.declared.found.OpenFault.TheVariants as faults
 use Rattle.book_file.specs.File.{IsBlank, StandsFor}
 use Rattle.book_file.specs.Found.{Finds, count_of}
 use Rattle.run_laws.specs.Truth.{book_of}
@@ -48,10 +48,10 @@ pub record HasRecords (file : List ℕ) (shape : Shape) (rs : List UploadData) :
 
 -- The file has this fault first, where a shape may be asked for.
 abbrev pub HasFault : Option Shape → (file : List ℕ) → Refusal → Type 0
-HasFault asked file refusals.NotAJournal = Finds asked ROOM file (Err file.NotAJournal)
-HasFault asked file (refusals.WrongShape kept other) = Finds asked ROOM file (Err (file.WrongShape kept other))
-HasFault asked file (refusals.Damaged at) = Finds asked ROOM file (Err (file.Damaged at))
-HasFault asked file (refusals.Full held more) = Finds asked ROOM file (Err (file.Full held more))
+HasFault asked file refusals.NotAJournal = Finds asked ROOM file (Err faults.NotAJournal)
+HasFault asked file (refusals.WrongShape kept other) = Finds asked ROOM file (Err (faults.WrongShape kept other))
+HasFault asked file (refusals.Damaged at) = Finds asked ROOM file (Err (faults.Damaged at))
+HasFault asked file (refusals.Full held more) = Finds asked ROOM file (Err (faults.Full held more))
 HasFault asked file refusals.BadWords = ⊥
 HasFault asked file (refusals.BadScenario n why) = ⊥
 HasFault asked file refusals.ReadFault = ⊥
