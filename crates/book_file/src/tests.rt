@@ -91,6 +91,8 @@ fn the_worked_file_in_pieces(rt: HostRuntime) -> Result<(), Fail> {
         let (found, most) = found_in(rt, &FILE, piece, None, ROOM)?;
         assert_eq!(rt; found, WHOLE, "pieces of {piece}");
         assert!(rt; most <= 26, "{most} kept");
+        let (cut, _) = found_in(rt, &FILE[..17], piece, None, ROOM)?;
+        assert_eq!(rt; cut, DAMAGED, "pieces of {piece}");
     }
     worked_files();
     Ok(())
@@ -253,6 +255,14 @@ fn writes_files(rt: HostRuntime) -> Result<(), Fail> {
     Ok(())
 }
 
+const LONGEST: Told = Told::Book {
+    records: 1,
+    columns: 16,
+    end: 921,
+};
+
+const OVERFULL: Told = Told::Fault(OpenFault::Full { held: 0, more: 16 });
+
 #[test]
 fn the_longest_body(rt: HostRuntime) -> Result<(), Fail> {
     let dims = Dims { rows: 8, width: 1 };
@@ -262,13 +272,12 @@ fn the_longest_body(rt: HostRuntime) -> Result<(), Fail> {
     file.extend_from_slice(&empty_file(&shape)[..17])?;
     file.push(1)?;
     file.extend_from_slice(&body_of(rt.alloc(), &longest, 65_535)?)?;
-    let want = Told::Book {
-        records: 1,
-        columns: 16,
-        end: 921,
-    };
-    for (piece, kept) in [(1, 902), (1_000, 0)] {
-        let (found, most) = found_in(rt, &file, piece, Some(&shape), 16)?;
+    for (piece, room, want, kept) in [
+        (1, 16, LONGEST, 902),
+        (1_000, 16, LONGEST, 0),
+        (1, 15, OVERFULL, 902),
+    ] {
+        let (found, most) = found_in(rt, &file, piece, Some(&shape), room)?;
         assert_eq!(rt; found, want);
         assert_eq!(rt; most, kept);
     }
