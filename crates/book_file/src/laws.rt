@@ -2,8 +2,8 @@
 ghost use Rattle.book_file.specs.Laws.{LawOfFiles, LawOfBlankFiles, LawOfAnswers, LawOfWholeFiles, LawOfLengths};
 ghost use Rattle.book_file.specs.Worked.{WorkedFiles};
 
-/// Bytes that aren't blank stand for at most one shape and one list of records, and blank ones for the empty list alone.
-/// The closing gate stands at most 17 bytes and 64 for each column from the start (docs/FORMATS.md, The book file).
+/// Bytes that aren't blank stand for at most one shape and one list of records, and blank ones for the empty list
+/// alone. The closing gate stands at most 17 bytes and 64 for each column from the start (docs/FORMATS.md, The book file).
 pub fn files_are_apart()
     ensures one { LawOfFiles }
     ensures blank { LawOfBlankFiles }

@@ -6,7 +6,8 @@
 //! | [`Walk`] | a walk over the records of a file that is fed to it in pieces |
 //! | [`Found`], [`OpenFault`] | what a whole file holds, or why it is no journal that can be opened |
 //! | [`empty_file`], [`body_of`] | the bytes of the empty journal; those of a record and the closed gate after it |
-//! | [`files_are_apart`], [`files_have_one_answer`], [`whole_files_have_no_fault`], [`worked_files`] | laws over files |
+//! | [`files_are_apart`], [`files_have_one_answer`] | a file stands for one list, and has one answer |
+//! | [`whole_files_have_no_fault`], [`worked_files`] | a file with room for its list has no fault; files by computation |
 //!
 //! A file is a header with its gate, and then records, each after an open gate. The first closed gate ends the journal;
 //! what follows it means nothing.

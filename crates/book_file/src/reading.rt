@@ -71,7 +71,8 @@ pub(crate) fn record_of(alloc: Global, dims: Dims, bytes: &[u8]) -> Result<Optio
     requires count { HasCount bytes.now }
     requires size { length bytes.now ≡ body_len dims.rows (slice_index bytes.now 6) }
     ensures { IfOk result (λ found. MatchOption found
-        ((r : UploadData) → IsRecord dims r → IsDistinct same_column_key (keys_of r.columns) → bytes.now ≡ body r → ⊥)
+        ((r : UploadData) → IsRecord dims r → IsDistinct same_column_key (keys_of r.columns)
+        → bytes.now ≡ body r → ⊥)
         (λ u. IsFull u × IsRecord dims u × (bytes.now ≡ body u))) }
 {
     let host = u16::from_be_bytes([bytes[0], bytes[1]]);

@@ -31,6 +31,22 @@ const DAMAGED: Told = Told::Fault(OpenFault::Damaged { at: 17 });
 
 const FOREIGN: Told = Told::Fault(OpenFault::NotAJournal);
 
+const UNENDED: Told = Told::Fault(OpenFault::Damaged { at: 45 });
+
+const FULL: Told = Told::Fault(OpenFault::Full { held: 1, more: 1 });
+
+const EMPTY: Told = Told::Book {
+    records: 0,
+    columns: 0,
+    end: 17,
+};
+
+const BOTH: Told = Told::Book {
+    records: 2,
+    columns: 2,
+    end: 73,
+};
+
 const WHOLE: Told = Told::Book {
     records: 1,
     columns: 1,
@@ -75,6 +91,8 @@ fn the_worked_file_in_pieces(rt: HostRuntime) -> Result<(), Fail> {
         let (found, most) = found_in(rt, &FILE, piece, None, ROOM)?;
         assert_eq!(rt; found, WHOLE, "pieces of {piece}");
         assert!(rt; most <= 26, "{most} kept");
+        let (cut, _) = found_in(rt, &FILE[..17], piece, None, ROOM)?;
+        assert_eq!(rt; cut, DAMAGED, "pieces of {piece}");
     }
     worked_files();
     Ok(())
@@ -85,7 +103,7 @@ fn the_first_bytes_of_a_file(rt: HostRuntime) -> Result<(), Fail> {
     for n in 0..46 {
         let want = match n {
             0 | 1 => Told::Blank,
-            45 => Told::Fault(OpenFault::Damaged { at: 45 }),
+            45 => UNENDED,
             _ if n < 17 => FOREIGN,
             _ => DAMAGED,
         };
@@ -99,11 +117,6 @@ fn the_first_bytes_of_a_file(rt: HostRuntime) -> Result<(), Fail> {
 
 #[test]
 fn one_byte_changed(rt: HostRuntime) -> Result<(), Fail> {
-    let empty = Told::Book {
-        records: 0,
-        columns: 0,
-        end: 17,
-    };
     for (at, byte, want) in [
         // The gate of the file and the letters.
         (0, 0, FOREIGN),
@@ -118,8 +131,8 @@ fn one_byte_changed(rt: HostRuntime) -> Result<(), Fail> {
         (8, 2, FOREIGN),
         (16, 1, FOREIGN),
         // The gate of the record is closed.
-        (17, 0, empty),
-        (17, 255, empty),
+        (17, 0, EMPTY),
+        (17, 255, EMPTY),
         // A count of 0, of 17, and of one more than there are columns; an index equal to the width.
         (24, 0, DAMAGED),
         (24, 17, DAMAGED),
@@ -127,7 +140,7 @@ fn one_byte_changed(rt: HostRuntime) -> Result<(), Fail> {
         (32, 1, DAMAGED),
         // The closing gate.
         (45, 255, WHOLE),
-        (45, 1, Told::Fault(OpenFault::Damaged { at: 45 })),
+        (45, 1, UNENDED),
     ] {
         let mut file = FILE;
         if let Some(place) = file.get_mut(at) {
@@ -167,13 +180,6 @@ fn files_of_parts(rt: HostRuntime) -> Result<(), Fail> {
         kept: worked,
         asked: seeded,
     });
-    let known = Told::Fault(OpenFault::Damaged { at: 45 });
-    let full = Told::Fault(OpenFault::Full { held: 1, more: 1 });
-    let both = Told::Book {
-        records: 2,
-        columns: 2,
-        end: 73,
-    };
     let head: &[u8] = &HEAD;
     let one: &[u8] = &ONE;
     let other: &[u8] = &OTHER;
@@ -183,11 +189,11 @@ fn files_of_parts(rt: HostRuntime) -> Result<(), Fail> {
     let shut = &zeros[..1];
     let none = &zeros[..0];
     for (parts, asked, room, want) in [
-        ([head, one, other, shut], Some(&worked), 2, both),
-        ([head, one, other, shut], None, 1, full),
-        ([head, one, one, shut], None, 2, known),
+        ([head, one, other, shut], Some(&worked), 2, BOTH),
+        ([head, one, other, shut], None, 1, FULL),
+        ([head, one, one, shut], None, 2, UNENDED),
         // A key that is known is told before the room.
-        ([head, one, one, shut], None, 1, known),
+        ([head, one, one, shut], None, 1, UNENDED),
         ([head, twice, shut, none], None, 2, DAMAGED),
         // Bytes after the closing gate mean nothing.
         ([head, one, shut, other], None, 1, WHOLE),
@@ -249,6 +255,14 @@ fn writes_files(rt: HostRuntime) -> Result<(), Fail> {
     Ok(())
 }
 
+const LONGEST: Told = Told::Book {
+    records: 1,
+    columns: 16,
+    end: 921,
+};
+
+const OVERFULL: Told = Told::Fault(OpenFault::Full { held: 0, more: 16 });
+
 #[test]
 fn the_longest_body(rt: HostRuntime) -> Result<(), Fail> {
     let dims = Dims { rows: 8, width: 1 };
@@ -258,13 +272,12 @@ fn the_longest_body(rt: HostRuntime) -> Result<(), Fail> {
     file.extend_from_slice(&empty_file(&shape)[..17])?;
     file.push(1)?;
     file.extend_from_slice(&body_of(rt.alloc(), &longest, 65_535)?)?;
-    let want = Told::Book {
-        records: 1,
-        columns: 16,
-        end: 921,
-    };
-    for (piece, kept) in [(1, 902), (1_000, 0)] {
-        let (found, most) = found_in(rt, &file, piece, Some(&shape), 16)?;
+    for (piece, room, want, kept) in [
+        (1, 16, LONGEST, 902),
+        (1_000, 16, LONGEST, 0),
+        (1, 15, OVERFULL, 902),
+    ] {
+        let (found, most) = found_in(rt, &file, piece, Some(&shape), room)?;
         assert_eq!(rt; found, want);
         assert_eq!(rt; most, kept);
     }

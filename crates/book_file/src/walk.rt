@@ -39,9 +39,25 @@ impl Model for Walk {
 
     ghost Value = { WalkState };
 
-    ghost view = { λ w. record { asked = w.terms.asked; room = w.terms.room; len = w.terms.len; fed = w.fed; rest = w.rest.items; gate = w.gate; stage = w.stage } };
+    ghost view = { λ w. record {
+      asked = w.terms.asked;
+      room = w.terms.room;
+      len = w.terms.len;
+      fed = w.fed;
+      rest = w.rest.items;
+      gate = w.gate;
+      stage = w.stage;
+    } };
 
-    ghost invariant = { λ w. IsWalk (record { asked = w.terms.asked; room = w.terms.room; len = w.terms.len; fed = w.fed; rest = w.rest.items; gate = w.gate; stage = w.stage }) };
+    ghost invariant = { λ w. IsWalk (record {
+      asked = w.terms.asked;
+      room = w.terms.room;
+      len = w.terms.len;
+      fed = w.fed;
+      rest = w.rest.items;
+      gate = w.gate;
+      stage = w.stage;
+    }) };
 }
 
 // How many bytes the next step needs, the kept ones included.
@@ -107,8 +123,8 @@ fn ending(stage: Stage, fed: u64, gate: u64, rest: &[u8]) -> Result<Found, OpenF
 }
 
 impl Walk {
-    /// A walk over a file of `len` bytes, for a book of this room, which is 1 to `ROOM`. Where a shape is asked for, the
-    /// file has to have it.
+    /// A walk over a file of `len` bytes, for a book of this room, which is 1 to `ROOM`. Where a shape is asked for,
+    /// the file has to have it.
     pub fn new(alloc: Global, asked: Option<&Shape>, room: u32, len: u64) -> Result<Walk, Memory>
         requires some { 1 ≤ room }
         requires few { room ≤ ROOM }
@@ -141,7 +157,8 @@ impl Walk {
 
     // Takes in bytes, as many as are missing at most.
     fn take(&mut self, bytes: &[u8])
-        requires few { is_ended self.old.stage ≡ false → length self.old.rest + length bytes.now ≤ needed self.old.stage self.old.rest }
+        requires few { is_ended self.old.stage ≡ false →
+            length self.old.rest + length bytes.now ≤ needed self.old.stage self.old.rest }
         requires inside { self.old.fed + length bytes.now ≤ self.old.len }
         ensures { Fed self.old self.new bytes.now }
     {
@@ -217,8 +234,9 @@ impl Walk {
         self.rest.len() as u32
     }
 
-    /// What the file holds, where all its bytes were fed or the walk has ended. It is the one answer that is true of the
-    /// file, however it was cut, or `Memory` exactly where a `feed` ran out of memory; never `DiskFault`. Takes no memory.
+    /// What the file holds, where all its bytes were fed or the walk has ended. It is the one answer that is true of
+    /// the file, however it was cut, or `Memory` exactly where a `feed` ran out of memory; never `DiskFault`. Takes no
+    /// memory.
     pub fn finish(self) -> Result<Found, OpenFault>
         requires { (self.fed ≡ self.len) ⊎ (is_ended self.stage ≡ true) }
         ensures finds { (read more : List ℕ) → HasRead self read → length (read ++ more) ≡ self.len →

@@ -39,7 +39,8 @@ fn lead_of(host: u16, seq: u32, count: u8) -> [u8; 7]
 // How many of at most 16 columns have their bit set.
 fn count_of(mask: u16, columns: &[Column]) -> u8
     requires { length columns.now ≤ 16 }
-    ensures { (p : model.Column → Bool) → mask ≡ mask_of (map p columns.now) → result ≡ length (filter p columns.now) }
+    ensures { (p : model.Column → Bool) → mask ≡ mask_of (map p columns.now) →
+        result ≡ length (filter p columns.now) }
 {
     let mut left = mask;
     let mut count = 0;
