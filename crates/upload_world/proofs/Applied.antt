@@ -2,22 +2,20 @@
 use Rattle.std.specs.Prelude.{◌≡◌, ℕ, zero, suc, ◌+◌, ◌<◌, ◌≤◌, Bool, true, false, cond, ◌||◌, List, [], ◌∷◌, ◌++◌, map, filter, take, length, fold, Option, None, Some, is_some, is_none, IfSome, Result, Ok, Err, slice_index_or}
 use Rattle.std.specs.List.{AllByRecursion, IsDistinct, list_any}
 use Rattle.std.specs.Option.{option_or}
-use Rattle.std.specs.BTreeMap.{is_at}
-use Rattle.std.proofs.Common.{refl, sym, ap, subst, ◌∙◌, arith, true≢false, append-nil, append_assoc, take_all}
+use Rattle.std.proofs.Common.{refl, sym, ap, subst, ◌∙◌, arith, true≢false, append-nil, take_all}
 use Rattle.std.proofs.lemmas.Grind.{flat_map-append}
 use Rattle.std.proofs.lemmas.List.{map-append, take_more}
 use Rattle.std.proofs.lemmas.Map.Keys.{IsDistinct-push, IsDistinct-cons, IsDistinct-head, IsDistinct-tail}
 use Rattle.lg_model.specs.declared.column.Key.{Key}
 use Rattle.lg_model.specs.Placing.{Shape}
 use Rattle.lg_model.specs.Columns.{Cells, Column}
-use Rattle.lg_model.specs.Answer.{key_cmp, Content, with_column, content_of, found}
-use Rattle.lg_model.specs.Joining.{AreJoinable, join}
+use Rattle.lg_model.specs.Answer.{Content, with_column, content_of, found}
 use Rattle.sketchlet_wire.specs.Uploads.{UploadData, IsUpload, same_column_key, holds_key, no_column}
 use Rattle.column_book.specs.declared.entry.Entry.{Entry}
 use Rattle.column_book.specs.declared.fault.BookFault.{BookFault}
 use Rattle.column_book.specs.Entries.{records, columns_in, columns_of, content}
 use Rattle.column_book.specs.Applying.{is_new, new_columns, decide, entry_with, with_new, after_decision, after}
-use Rattle.column_book.proofs.Keys.{one_key, key_itself, is_at_key, same_column_key-flip, keys_equiv}
+use Rattle.column_book.proofs.Keys.{key_itself, is_at_key, same_column_key-flip, keys_equiv}
 use Rattle.column_book.proofs.Contents.{found-insert}
 use Rattle.column_book.proofs.Joins.{in_order, found-join, law}
 use Rattle.column_book.proofs.Applying.{taken}

@@ -1,5 +1,5 @@
 -- Each event keeps what is sound.
-use Rattle.std.specs.Prelude.{◌≡◌, ℕ, zero, suc, ◌<◌, ◌⊎◌, ◌≢◌, Bool, true, false, ◌==◌, List, [], ◌∷◌, ◌++◌, map, length, position, nat_lt, slice_get, slice_set, None, Some, Result, Ok, Err, if◌then◌else◌}
+use Rattle.std.specs.Prelude.{◌≡◌, ℕ, zero, suc, ◌<◌, ◌⊎◌, ◌≢◌, Bool, true, false, ◌==◌, List, [], ◌∷◌, map, length, position, nat_lt, slice_get, slice_set, None, Some, Result, Ok, Err, if◌then◌else◌}
 use Rattle.std.specs.List.{AllByRecursion}
 use Rattle.std.proofs.Common.{refl, sym, ap, subst, ◌∙◌, inl, inr, true≢false, length-set, eqb-true}
 use Rattle.std.proofs.lemmas.List.Quantifiers.{position-Some}

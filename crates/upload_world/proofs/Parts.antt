@@ -1,5 +1,5 @@
 -- What a step of the program leaves, and what it does to the parts in hand.
-use Rattle.std.specs.Prelude.{◌≡◌, ℕ, zero, suc, ◌+◌, ◌<◌, ◌≤◌, ◌^◌, Bool, true, false, List, [], ◌∷◌, ◌++◌, map, length, slice_get, slice_set, slice_index_or, Option, None, Some, Result, Ok, Err, is_some, unwrap_or, IfOk, OnOk, MatchResult}
+use Rattle.std.specs.Prelude.{◌≡◌, ℕ, zero, suc, ◌+◌, ◌<◌, ◌≤◌, ◌^◌, Bool, true, false, List, [], ◌∷◌, ◌++◌, length, slice_get, slice_set, slice_index_or, Option, None, Some, Result, Ok, Err, is_some, unwrap_or, IfOk, OnOk, MatchResult}
 use Rattle.std.specs.Option.{option_map, option_and_then, option_map_or}
 use Rattle.std.proofs.Common.{refl, sym, ap, subst, ◌∙◌, arith, append-nil, length-append}
 use Rattle.std.proofs.lemmas.Option.{get_or_from_slice_get, slice_get_read}
@@ -20,7 +20,7 @@ use Rattle.upload_world.specs.declared.event.Event.TheVariants.{Send}
 use Rattle.upload_world.specs.World.{WorldState, no_upload, send, decision, happens, after_event, Steps}
 use Rattle.upload_world.specs.Kept.{IsSound, IsWorld}
 use Rattle.upload_world.specs.Law.{is_acked}
-use Rattle.upload_world.proofs.Running.{Changes, by_event, sound_after, Grows, grows_after, Stays, stays_after}
+use Rattle.upload_world.proofs.Running.{by_event, sound_after, Grows, grows_after, Stays, stays_after}
 
 -- ---- how many frames and replies there are after an event
 

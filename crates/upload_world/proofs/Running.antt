@@ -1,8 +1,8 @@
 -- Whole runs: each event keeps a sound world sound, and what it leaves of uploads, entries and acknowledged uploads.
-use Rattle.std.specs.Prelude.{◌≡◌, ℕ, zero, suc, ◌<◌, ◌≢◌, Bool, true, false, List, [], ◌∷◌, ◌++◌, map, length, slice_get, slice_set, slice_index_or, Option, None, Some, unwrap_or}
+use Rattle.std.specs.Prelude.{◌≡◌, ℕ, zero, suc, ◌<◌, ◌≢◌, Bool, true, false, List, [], ◌∷◌, ◌++◌, length, slice_get, slice_set, slice_index_or, Option, None, Some, unwrap_or}
 use Rattle.std.specs.List.{AllByRecursion}
 use Rattle.std.specs.Option.{option_map, option_and_then, option_map_or}
-use Rattle.std.proofs.Common.{refl, sym, ap, subst, ◌∙◌, arith, true≢false, append-nil, length-set}
+use Rattle.std.proofs.Common.{refl, sym, subst, ◌∙◌, arith, true≢false, append-nil, length-set}
 use Rattle.std.proofs.lemmas.Option.{slice_get-get_or}
 use Rattle.lg_model.specs.Answer.{Content}
 use Rattle.sketchlet_wire.specs.Uploads.{UploadData, IsFull}

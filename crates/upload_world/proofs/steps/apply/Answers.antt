@@ -1,4 +1,4 @@
-use Rattle.std.proofs.Common.{◌≡◌, ◌∙◌, ℕ, Ok, Result, ap, sym}
+use Rattle.std.proofs.Common.{◌∙◌, ℕ, Ok, Result, ap, sym}
 use Rattle.column_book.specs.declared.fault.BookFault.{BookFault}
 use Rattle.upload_world.proofs.Parts.{known_reply, known_entries}
 use Rattle.upload_world.proofs.steps.apply.Goals as goal

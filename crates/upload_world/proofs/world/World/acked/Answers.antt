@@ -1,8 +1,7 @@
-use Rattle.std.proofs.Common.{◌≡◌, ◌<◌, ◌≤◌, ◌∙◌, ap, sym, subst, arith, length, refl, ltb-true, ltb-false}
+use Rattle.std.proofs.Common.{◌<◌, ◌≤◌, ◌∙◌, ap, sym, arith, length, refl, ltb-true, ltb-false}
 use Rattle.std.specs.Prelude.{slice_index_or}
 use Rattle.std.proofs.lemmas.Bool.{le-ltb}
 use Rattle.std.proofs.lemmas.Option.{slice_get_read, slice_get_past}
-use Rattle.uploader_core.specs.Uploader.{UploaderState}
 use Rattle.upload_world.specs.Kept.{world_of}
 use Rattle.upload_world.proofs.Parts.{acked_past, acked_none}
 use Rattle.upload_world.proofs.world.World.acked.Goals as goal
