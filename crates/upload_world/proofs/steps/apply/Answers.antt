@@ -9,9 +9,11 @@ masked n = Ok n
 pub returns-in-Ok-eq0-clause-reply : goal.returns-in-Ok-eq0-clause-reply
 returns-in-Ok-eq0-clause-reply c =
     let b = c.args.book.now in
-    known_reply b.shape b.room b.entries c.args.upload.now (sym c.check.ensures ∙ c.in-Ok-eq0.is ∙ ap masked c.in-Ok-eq0.field-0-test) _ c.reply-in-Ok-eq0.result c.reply-in-Ok-eq0.ensures
+    known_reply b.shape b.room b.entries c.args.upload.now (sym c.check.ensures ∙ c.in-Ok-eq0.is
+    ∙ ap masked c.in-Ok-eq0.field-0-test) _ c.reply-in-Ok-eq0.result c.reply-in-Ok-eq0.ensures
 
 pub returns-in-Ok-eq0-clause-entries : goal.returns-in-Ok-eq0-clause-entries
 returns-in-Ok-eq0-clause-entries c =
     let b = c.args.book.now in
-    known_entries b.shape b.room b.entries c.args.upload.now (sym c.check.ensures ∙ c.in-Ok-eq0.is ∙ ap masked c.in-Ok-eq0.field-0-test) c.reply-in-Ok-eq0.result
+    known_entries b.shape b.room b.entries c.args.upload.now
+    (sym c.check.ensures ∙ c.in-Ok-eq0.is ∙ ap masked c.in-Ok-eq0.field-0-test) c.reply-in-Ok-eq0.result
