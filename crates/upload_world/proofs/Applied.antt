@@ -2,22 +2,20 @@
 use Rattle.std.specs.Prelude.{◌≡◌, ℕ, zero, suc, ◌+◌, ◌<◌, ◌≤◌, Bool, true, false, cond, ◌||◌, List, [], ◌∷◌, ◌++◌, map, filter, take, length, fold, Option, None, Some, is_some, is_none, IfSome, Result, Ok, Err, slice_index_or}
 use Rattle.std.specs.List.{AllByRecursion, IsDistinct, list_any}
 use Rattle.std.specs.Option.{option_or}
-use Rattle.std.specs.BTreeMap.{is_at}
-use Rattle.std.proofs.Common.{refl, sym, ap, subst, ◌∙◌, arith, true≢false, append-nil, append_assoc, take_all}
+use Rattle.std.proofs.Common.{refl, sym, ap, subst, ◌∙◌, arith, true≢false, append-nil, take_all}
 use Rattle.std.proofs.lemmas.Grind.{flat_map-append}
 use Rattle.std.proofs.lemmas.List.{map-append, take_more}
 use Rattle.std.proofs.lemmas.Map.Keys.{IsDistinct-push, IsDistinct-cons, IsDistinct-head, IsDistinct-tail}
 use Rattle.lg_model.specs.declared.column.Key.{Key}
 use Rattle.lg_model.specs.Placing.{Shape}
 use Rattle.lg_model.specs.Columns.{Cells, Column}
-use Rattle.lg_model.specs.Answer.{key_cmp, Content, with_column, content_of, found}
-use Rattle.lg_model.specs.Joining.{AreJoinable, join}
+use Rattle.lg_model.specs.Answer.{Content, with_column, content_of, found}
 use Rattle.sketchlet_wire.specs.Uploads.{UploadData, IsUpload, same_column_key, holds_key, no_column}
 use Rattle.column_book.specs.declared.entry.Entry.{Entry}
 use Rattle.column_book.specs.declared.fault.BookFault.{BookFault}
 use Rattle.column_book.specs.Entries.{records, columns_in, columns_of, content}
 use Rattle.column_book.specs.Applying.{is_new, new_columns, decide, entry_with, with_new, after_decision, after}
-use Rattle.column_book.proofs.Keys.{one_key, key_itself, is_at_key, same_column_key-flip, keys_equiv}
+use Rattle.column_book.proofs.Keys.{key_itself, is_at_key, same_column_key-flip, keys_equiv}
 use Rattle.column_book.proofs.Contents.{found-insert}
 use Rattle.column_book.proofs.Joins.{in_order, found-join, law}
 use Rattle.column_book.proofs.Applying.{taken}
@@ -50,10 +48,11 @@ found_other m (c ∷ cs) q none =
 -- a key is found exactly where a column has it
 is_found : (m : Content) (cs : List Column) (q : Key) → is_some (found (fold with_column m cs) q) ≡ (has cs q || is_some (found m q))
 is_found m [] q = refl
-is_found m (c ∷ cs) q = is_found (with_column m c) cs q ∙ ap (λ o. has cs q || is_some o) (found_more m c q) ∙ (elim (same_column_key q c.key) as (λ b. (has cs q || is_some (cond b (Some c.cells) (found m q))) ≡ ((b || has cs q) || is_some (found m q))) [
-  | true ↦ or_true (has cs q)
-  | false ↦ refl
-])
+is_found m (c ∷ cs) q = is_found (with_column m c) cs q ∙ ap (λ o. has cs q || is_some o) (found_more m c q)
+    ∙ (elim (same_column_key q c.key) as (λ b. (has cs q || is_some (cond b (Some c.cells) (found m q))) ≡ ((b || has cs q) || is_some (found m q))) [
+      | true ↦ or_true (has cs q)
+      | false ↦ refl
+    ])
   where
     or_true : (b : Bool) → (b || true) ≡ true
     or_true true = refl
@@ -111,11 +110,14 @@ module _ (shape : Shape) (room : ℕ) (es : List Entry) (pass : ℕ) (u : Upload
   abbrev m : Content
   m = content es
 
-  found_after : (new : List Column) → decide shape room (records es) u ≡ Ok new → (q : Key) → found (content (after shape room es pass u)) q ≡ option_or (found (content_of u.columns) q) (found m q)
-  found_after new is q = ap (λ (n : Content). found n q) (law shape room es pass u new is).joined ∙ found-join m (content_of u.columns) q (in_order [] u.columns tt)
+  found_after : (new : List Column) → decide shape room (records es) u ≡ Ok new → (q : Key) →
+      found (content (after shape room es pass u)) q ≡ option_or (found (content_of u.columns) q) (found m q)
+  found_after new is q = ap (λ (n : Content). found n q) (law shape room es pass u new is).joined
+      ∙ found-join m (content_of u.columns) q (in_order [] u.columns tt)
 
   -- An upload that is taken has all its columns in the content.
-  pub taken_is_kept : IsUpload u.columns → (new : List Column) → decide shape room (records es) u ≡ Ok new → AreKept (content (after shape room es pass u)) u.columns
+  pub taken_is_kept : IsUpload u.columns → (new : List Column) → decide shape room (records es) u ≡ Ok new →
+      AreKept (content (after shape room es pass u)) u.columns
   taken_is_kept ok new is = each u.columns (each_found [] u.columns (keys_apart u.columns ok))
     where
       each : (cs : List Column) → AreKept (content_of u.columns) cs → AreKept (content (after shape room es pass u)) cs
@@ -133,7 +135,8 @@ module _ (shape : Shape) (room : ℕ) (es : List Entry) (pass : ℕ) (u : Upload
       by : (d : Result (List Column) BookFault) → decide shape room (records es) u ≡ d → found (content (after shape room es pass u)) k ≡ Some v
       by (Err fault) is = ap (λ (x : Result (List Column) BookFault). found (content (after_decision es pass u x)) k) is ∙ has_v
       by (Ok new) is =
-          let agree = subst (λ (o : Option Cells). IfSome o (λ x. IfSome (found (content_of u.columns) k) (λ y. y ≡ x))) has_v ((law shape room es pass u new is).joinable k) in
+          let agree = subst (λ (o : Option Cells). IfSome o (λ x. IfSome (found (content_of u.columns) k) (λ y. y ≡ x))) has_v
+          ((law shape room es pass u new is).joinable k) in
           found_after new is k ∙ ap (option_or (found (content_of u.columns) k)) has_v ∙ joined (found (content_of u.columns) k) agree
 
   -- The entries after it begin with those before it.
@@ -157,20 +160,23 @@ columns_new es pass u (c ∷ cs) =
     ∙ flat_map-append (λ (r : UploadData). r.columns) (records es) ((entry_with pass u (c ∷ cs)).stored ∷ [])
     ∙ ap (λ (xs : List Column). columns_of es ++ xs) (append-nil (c ∷ cs))
 
-apart_head : (k : Key) (xs ys : List Column) → AllByRecursion (λ (q : Key). same_column_key k q ≡ false) (keys xs) → AllByRecursion (λ (y : Column). same_column_key k y.key ≡ false) ys
+apart_head : (k : Key) (xs ys : List Column) → AllByRecursion (λ (q : Key). same_column_key k q ≡ false) (keys xs) →
+    AllByRecursion (λ (y : Column). same_column_key k y.key ≡ false) ys
     → AllByRecursion (λ (q : Key). same_column_key k q ≡ false) (keys (xs ++ ys))
 apart_head k [] [] a b = tt
 apart_head k [] (y ∷ ys) a b = (b.0, apart_head k [] ys tt b.1)
 apart_head k (x ∷ xs) ys a b = (a.0, apart_head k xs ys a.1 b)
 
-apart_append : (xs ys : List Column) → IsDistinct same_column_key (keys xs) → IsDistinct same_column_key (keys ys) → AllByRecursion (λ (y : Column). has xs y.key ≡ false) ys → IsDistinct same_column_key (keys (xs ++ ys))
+apart_append : (xs ys : List Column) → IsDistinct same_column_key (keys xs) → IsDistinct same_column_key (keys ys) →
+    AllByRecursion (λ (y : Column). has xs y.key ≡ false) ys → IsDistinct same_column_key (keys (xs ++ ys))
 apart_append [] ys a b h = b
 apart_append (x ∷ xs) ys a b h =
     IsDistinct-cons same_column_key x.key (keys (xs ++ ys))
     (apart_head x.key xs ys (IsDistinct-head same_column_key x.key (keys xs) a) (heads ys h))
     (apart_append xs ys (IsDistinct-tail same_column_key x.key (keys xs) a) b (tails ys h))
   where
-    heads : (zs : List Column) → AllByRecursion (λ (y : Column). has (x ∷ xs) y.key ≡ false) zs → AllByRecursion (λ (y : Column). same_column_key x.key y.key ≡ false) zs
+    heads : (zs : List Column) → AllByRecursion (λ (y : Column). has (x ∷ xs) y.key ≡ false) zs →
+        AllByRecursion (λ (y : Column). same_column_key x.key y.key ≡ false) zs
     heads [] all = tt
     heads (z ∷ zs) all = (same_column_key-flip x.key z.key ∙ (parts (same_column_key z.key x.key) (has xs z.key) all.0).0, heads zs all.1)
 
@@ -178,7 +184,8 @@ apart_append (x ∷ xs) ys a b h =
     tails [] all = tt
     tails (z ∷ zs) all = ((parts (same_column_key z.key x.key) (has xs z.key) all.0).1, tails zs all.1)
 
-filter_head : (p : Column → Bool) (k : Key) (cs : List Column) → AllByRecursion (λ (q : Key). same_column_key k q ≡ false) (keys cs) → AllByRecursion (λ (q : Key). same_column_key k q ≡ false) (keys (filter p cs))
+filter_head : (p : Column → Bool) (k : Key) (cs : List Column) → AllByRecursion (λ (q : Key). same_column_key k q ≡ false) (keys cs) →
+    AllByRecursion (λ (q : Key). same_column_key k q ≡ false) (keys (filter p cs))
 filter_head p k [] all = tt
 filter_head p k (c ∷ cs) all = elim (p c) as (λ b. AllByRecursion (λ (q : Key). same_column_key k q ≡ false) (keys (cond b (c ∷ filter p cs) (filter p cs)))) [
   | true ↦ (all.0, filter_head p k cs all.1)
@@ -197,10 +204,11 @@ apart_filter p (c ∷ cs) apart =
 -- the new columns have no key of the old ones
 new_apart : (cs us : List Column) → AllByRecursion (λ (y : Column). has cs y.key ≡ false) (new_columns (content_of cs) us)
 new_apart cs [] = tt
-new_apart cs (u ∷ us) = (elim (is_new (content_of cs) u) as (λ b. is_new (content_of cs) u ≡ b → AllByRecursion (λ (y : Column). has cs y.key ≡ false) (cond b (u ∷ new_columns (content_of cs) us) (new_columns (content_of cs) us))) [
-  | true ↦ λ new. (none (has cs u.key) (found (content_of cs) u.key) (is_found [] cs u.key) new, new_apart cs us)
-  | false ↦ λ old. new_apart cs us
-]) refl
+new_apart cs (u ∷ us) = (elim (is_new (content_of cs) u) as (λ b. is_new (content_of cs) u ≡ b → AllByRecursion (λ (y : Column). has cs y.key ≡ false)
+    (cond b (u ∷ new_columns (content_of cs) us) (new_columns (content_of cs) us))) [
+      | true ↦ λ new. (none (has cs u.key) (found (content_of cs) u.key) (is_found [] cs u.key) new, new_apart cs us)
+      | false ↦ λ old. new_apart cs us
+    ]) refl
   where
     none : (b : Bool) (o : Option Cells) → is_some o ≡ (b || false) → is_none o ≡ true → b ≡ false
     none false o same new = refl
@@ -208,11 +216,14 @@ new_apart cs (u ∷ us) = (elim (is_new (content_of cs) u) as (λ b. is_new (con
     none true (Some v) same new = absurd (true≢false (sym new))
 
 -- No key stands twice after an upload.
-pub keys_differ_after : (shape : Shape) (room : ℕ) (es : List Entry) (pass : ℕ) (u : UploadData) → IsUpload u.columns → KeysDiffer es → KeysDiffer (after shape room es pass u)
+pub keys_differ_after : (shape : Shape) (room : ℕ) (es : List Entry) (pass : ℕ) (u : UploadData) → IsUpload u.columns → KeysDiffer es →
+    KeysDiffer (after shape room es pass u)
 keys_differ_after shape room es pass u ok apart = by (decide shape room (records es) u) refl
   where
     by : (d : Result (List Column) BookFault) → decide shape room (records es) u ≡ d → KeysDiffer (after_decision es pass u d)
     by (Err fault) is = apart
     by (Ok new) is =
-        let all = apart_append (columns_of es) (new_columns (content es) u.columns) apart (apart_filter (is_new (content es)) u.columns (keys_apart u.columns ok)) (new_apart (columns_of es) u.columns) in
-        subst (λ (cs : List Column). IsDistinct same_column_key (keys cs)) (ap (λ (n : List Column). columns_of es ++ n) (sym (taken shape room (records es) u new is).is) ∙ sym (columns_new es pass u new)) all
+        let all = apart_append (columns_of es) (new_columns (content es) u.columns) apart
+        (apart_filter (is_new (content es)) u.columns (keys_apart u.columns ok)) (new_apart (columns_of es) u.columns) in
+        subst (λ (cs : List Column). IsDistinct same_column_key (keys cs))
+        (ap (λ (n : List Column). columns_of es ++ n) (sym (taken shape room (records es) u new is).is) ∙ sym (columns_new es pass u new)) all

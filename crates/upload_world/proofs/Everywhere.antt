@@ -1,5 +1,5 @@
 -- What holds of each element of a list, and what is found in a list that was changed.
-use Rattle.std.specs.Prelude.{◌≡◌, ℕ, zero, suc, ◌<◌, Bool, true, false, List, [], ◌∷◌, ◌++◌, map, length, slice_get, slice_set, slice_index_or, Option, None, Some}
+use Rattle.std.specs.Prelude.{◌≡◌, ℕ, zero, suc, ◌<◌, Bool, true, false, List, [], ◌∷◌, ◌++◌, map, length, slice_get, slice_set, slice_index_or, Option, Some}
 use Rattle.std.specs.List.{AllByRecursion}
 use Rattle.std.specs.Option.{option_and_then, option_map_or}
 use Rattle.std.proofs.Common.{refl, sym, ap, subst, ◌∙◌, arith}
@@ -33,7 +33,8 @@ module _ {X : Type 0} where
   map_set h (z ∷ xs) zero x y is same = let e : z ≡ x = cc in (λ j. (same ∙ ap h (sym e)) j ∷ map h xs)
   map_set h (z ∷ xs) (suc i) x y is same = ap (λ r. h z ∷ r) (map_set h xs i x y is same)
 
-  pub found_set : {Y : Type 0} (h : X → Option Y) (xs : List X) (i at : ℕ) (x y : X) → slice_get xs i ≡ Some x → h y ≡ h x → option_and_then h (slice_get (slice_set xs i y) at) ≡ option_and_then h (slice_get xs at)
+  pub found_set : {Y : Type 0} (h : X → Option Y) (xs : List X) (i at : ℕ) (x y : X) → slice_get xs i ≡ Some x → h y ≡ h x →
+      option_and_then h (slice_get (slice_set xs i y) at) ≡ option_and_then h (slice_get xs at)
   found_set h [] i at x y is same = refl
   found_set h (z ∷ xs) zero zero x y is same = let e : z ≡ x = cc in same ∙ ap h (sym e)
   found_set h (z ∷ xs) zero (suc at) x y is same = refl
@@ -41,7 +42,8 @@ module _ {X : Type 0} where
   found_set h (z ∷ xs) (suc i) (suc at) x y is same = found_set h xs i at x y is same
 
   -- an element is replaced by one that passes where it did
-  pub passes_set : (p : X → Bool) (xs : List X) (i at : ℕ) (x y : X) → slice_get xs i ≡ Some x → (p x ≡ true → p y ≡ true) → option_map_or p (slice_get xs at) false ≡ true →
+  pub passes_set : (p : X → Bool) (xs : List X) (i at : ℕ) (x y : X) → slice_get xs i ≡ Some x → (p x ≡ true → p y ≡ true) →
+      option_map_or p (slice_get xs at) false ≡ true →
       option_map_or p (slice_get (slice_set xs i y) at) false ≡ true
   passes_set p [] i at x y is goes had = had
   passes_set p (z ∷ xs) zero zero x y is goes had = let e : z ≡ x = cc in goes (ap p (sym e) ∙ had)
@@ -54,12 +56,14 @@ module _ {X : Type 0} where
   map_map h g [] same = refl
   map_map h g (x ∷ xs) same = λ i. same x i ∷ map_map h g xs same i
 
-  pub found_map : {Y : Type 0} (h : X → Option Y) (g : X → X) (xs : List X) (at : ℕ) → ((x : X) → h (g x) ≡ h x) → option_and_then h (slice_get (map g xs) at) ≡ option_and_then h (slice_get xs at)
+  pub found_map : {Y : Type 0} (h : X → Option Y) (g : X → X) (xs : List X) (at : ℕ) → ((x : X) → h (g x) ≡ h x) →
+      option_and_then h (slice_get (map g xs) at) ≡ option_and_then h (slice_get xs at)
   found_map h g [] at same = refl
   found_map h g (x ∷ xs) zero same = same x
   found_map h g (x ∷ xs) (suc at) same = found_map h g xs at same
 
-  pub passes_map : (p : X → Bool) (g : X → X) (xs : List X) (at : ℕ) → ((x : X) → p x ≡ true → p (g x) ≡ true) → option_map_or p (slice_get xs at) false ≡ true →
+  pub passes_map : (p : X → Bool) (g : X → X) (xs : List X) (at : ℕ) → ((x : X) → p x ≡ true → p (g x) ≡ true) →
+      option_map_or p (slice_get xs at) false ≡ true →
       option_map_or p (slice_get (map g xs) at) false ≡ true
   passes_map p g [] at goes had = had
   passes_map p g (x ∷ xs) zero goes had = goes x had

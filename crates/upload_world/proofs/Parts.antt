@@ -1,5 +1,5 @@
 -- What a step of the program leaves, and what it does to the parts in hand.
-use Rattle.std.specs.Prelude.{◌≡◌, ℕ, zero, suc, ◌+◌, ◌<◌, ◌≤◌, ◌^◌, Bool, true, false, List, [], ◌∷◌, ◌++◌, map, length, slice_get, slice_set, slice_index_or, Option, None, Some, Result, Ok, Err, is_some, unwrap_or, IfOk, OnOk, MatchResult}
+use Rattle.std.specs.Prelude.{◌≡◌, ℕ, zero, suc, ◌+◌, ◌<◌, ◌≤◌, ◌^◌, Bool, true, false, List, [], ◌∷◌, ◌++◌, length, slice_get, slice_set, slice_index_or, Option, None, Some, Result, Ok, Err, is_some, unwrap_or, IfOk, OnOk, MatchResult}
 use Rattle.std.specs.Option.{option_map, option_and_then, option_map_or}
 use Rattle.std.proofs.Common.{refl, sym, ap, subst, ◌∙◌, arith, append-nil, length-append}
 use Rattle.std.proofs.lemmas.Option.{get_or_from_slice_get, slice_get_read}
@@ -20,7 +20,7 @@ use Rattle.upload_world.specs.declared.event.Event.TheVariants.{Send}
 use Rattle.upload_world.specs.World.{WorldState, no_upload, send, decision, happens, after_event, Steps}
 use Rattle.upload_world.specs.Kept.{IsSound, IsWorld}
 use Rattle.upload_world.specs.Law.{is_acked}
-use Rattle.upload_world.proofs.Running.{Changes, by_event, sound_after, Grows, grows_after, Stays, stays_after}
+use Rattle.upload_world.proofs.Running.{by_event, sound_after, Grows, grows_after, Stays, stays_after}
 
 -- ---- how many frames and replies there are after an event
 
@@ -51,7 +51,8 @@ module _ {E : Type 0} where
   by_steps P w v e (Ok b) steps old new = subst P (sym steps.1) new
   by_steps P w v e (Err m) steps old new = subst P (sym steps) old
 
-  pub world_by : (w v : WorldState) (e : Event) (r : Result Bool E) → IsWorld w → Steps w e r v → length v.frames < 2 ^ 32 → length v.replies < 2 ^ 32 → IsWorld v
+  pub world_by : (w v : WorldState) (e : Event) (r : Result Bool E) → IsWorld w → Steps w e r v → length v.frames < 2 ^ 32 → length v.replies < 2 ^ 32 →
+      IsWorld v
   world_by w v e r is steps frames replies = record {
     sound = by_steps IsSound w v e r steps is.sound (sound_after w e is.sound);
     few_frames = frames;
@@ -82,19 +83,27 @@ did_not w x e none is = (sym (ap (λ (o : Option WorldState). is_some o) none), 
 abbrev next_sent : WorldState → ℕ → UploaderState → Option WorldState
 next_sent w at u = option_map (send w at u) (next_of u.states)
 
-pub send_none : (w : WorldState) (at : ℕ) (u : UploaderState) → at < length w.uploaders → u ≡ slice_index_or w.uploaders at u → next_of u.states ≡ None → happens w (Send at) ≡ None
-send_none w at u lt is none = ap (option_and_then (next_sent w at)) (slice_get_read w.uploaders (length w.uploaders) at u refl lt is) ∙ ap (option_map (send w at u)) none
+pub send_none : (w : WorldState) (at : ℕ) (u : UploaderState) → at < length w.uploaders → u ≡ slice_index_or w.uploaders at u → next_of u.states ≡ None →
+    happens w (Send at) ≡ None
+send_none w at u lt is none = ap (option_and_then (next_sent w at)) (slice_get_read w.uploaders (length w.uploaders) at u refl lt is)
+    ∙ ap (option_map (send w at u)) none
 
-pub send_some : (w : WorldState) (at : ℕ) (u : UploaderState) (seq : ℕ) (f : UploadData) → at < length w.uploaders → u ≡ slice_index_or w.uploaders at u → next_of u.states ≡ Some seq → slice_get u.uploads seq ≡ Some f
+pub send_some : (w : WorldState) (at : ℕ) (u : UploaderState) (seq : ℕ) (f : UploadData) → at < length w.uploaders → u ≡ slice_index_or w.uploaders at u →
+    next_of u.states ≡ Some seq → slice_get u.uploads seq ≡ Some f
     → happens w (Send at) ≡ Some (record w { uploaders = slice_set w.uploaders at (record u { states = sent u.states seq }); frames = w.frames ++ f ∷ [] })
 send_some w at u seq f lt is next there =
     ap (option_and_then (next_sent w at)) (slice_get_read w.uploaders (length w.uploaders) at u refl lt is) ∙ ap (option_map (send w at u)) next
-    ∙ ap (λ (x : UploadData). Some (record w { uploaders = slice_set w.uploaders at (record u { states = sent u.states seq }); frames = w.frames ++ x ∷ [] })) (get_or_from_slice_get u.uploads seq f no_upload there)
+    ∙ ap (λ (x : UploadData). Some (record w {
+      uploaders = slice_set w.uploaders at (record u { states = sent u.states seq });
+      frames = w.frames ++ x ∷
+          [];
+    })) (get_or_from_slice_get u.uploads seq f no_upload there)
 
 -- ---- what the book answers where nothing is new
 
 module _ {E : Type 0} (shape : Shape) (room : ℕ) (es : List Entry) (u : UploadData) (known : checked shape room (records es) u ≡ Ok 0) where
-  pub known_reply : (Q : E → Type 0) (result : Result Reply E) → MatchResult result (λ r. reply_for u (Ok Known) ≡ Some r) Q → IfOk result (λ r. r ≡ reply_to u (decide shape room (records es) u))
+  pub known_reply : (Q : E → Type 0) (result : Result Reply E) → MatchResult result (λ r. reply_for u (Ok Known) ≡ Some r) Q →
+      IfOk result (λ r. r ≡ reply_to u (decide shape room (records es) u))
   known_reply Q (Ok r) is = sym (some_of (acknowledgement u true) r is) ∙ ap (reply_to u) (sym ((applying shape room es 0 u).known known).0)
     where
       some_of : (a b : Reply) → Some a ≡ Some b → a ≡ b
@@ -112,8 +121,10 @@ past [] seq le = refl
 past (s ∷ ss) zero le = absurd (omega arith)
 past (s ∷ ss) (suc seq) le = past ss seq (omega arith)
 
-pub acked_past : (w : WorldState) (at seq : ℕ) (u : UploaderState) → slice_get w.uploaders at ≡ Some u → IsUploader u → length u.uploads ≤ seq → is_acked w at seq ≡ false
-acked_past w at seq u there is le = ap (λ (o : Option UploaderState). option_map_or (λ (x : UploaderState). is_acknowledged (state_at x.states seq)) o false) there ∙ past u.states seq (omega (arith, is.paired))
+pub acked_past : (w : WorldState) (at seq : ℕ) (u : UploaderState) → slice_get w.uploaders at ≡ Some u → IsUploader u → length u.uploads ≤ seq →
+    is_acked w at seq ≡ false
+acked_past w at seq u there is le = ap (λ (o : Option UploaderState). option_map_or
+    (λ (x : UploaderState). is_acknowledged (state_at x.states seq)) o false) there ∙ past u.states seq (omega (arith, is.paired))
 
 pub acked_none : (w : WorldState) (at seq : ℕ) → slice_get w.uploaders at ≡ None → is_acked w at seq ≡ false
 acked_none w at seq none = ap (λ (o : Option UploaderState). option_map_or (λ (x : UploaderState). is_acknowledged (state_at x.states seq)) o false) none

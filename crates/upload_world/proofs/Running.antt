@@ -1,8 +1,8 @@
 -- Whole runs: each event keeps a sound world sound, and what it leaves of uploads, entries and acknowledged uploads.
-use Rattle.std.specs.Prelude.{◌≡◌, ℕ, zero, suc, ◌<◌, ◌≢◌, Bool, true, false, List, [], ◌∷◌, ◌++◌, map, length, slice_get, slice_set, slice_index_or, Option, None, Some, unwrap_or}
+use Rattle.std.specs.Prelude.{◌≡◌, ℕ, zero, suc, ◌<◌, ◌≢◌, Bool, true, false, List, [], ◌∷◌, ◌++◌, length, slice_get, slice_set, slice_index_or, Option, None, Some, unwrap_or}
 use Rattle.std.specs.List.{AllByRecursion}
 use Rattle.std.specs.Option.{option_map, option_and_then, option_map_or}
-use Rattle.std.proofs.Common.{refl, sym, ap, subst, ◌∙◌, arith, true≢false, append-nil, length-set}
+use Rattle.std.proofs.Common.{refl, sym, subst, ◌∙◌, arith, true≢false, append-nil, length-set}
 use Rattle.std.proofs.lemmas.Option.{slice_get-get_or}
 use Rattle.lg_model.specs.Answer.{Content}
 use Rattle.sketchlet_wire.specs.Uploads.{UploadData, IsFull}
@@ -45,7 +45,8 @@ by_send P w c at (Some u) is = by (next_of u.states) refl
     by None next = c.stands
     by (Some seq) next = c.sends at seq u is next
 
-by_found : {X : Type 0} (P : WorldState → Type 0) (w : WorldState) (f : X → WorldState) (xs : List X) (k : ℕ) → P w → ((x : X) → slice_get xs k ≡ Some x → P (f x)) → P (unwrap_or (option_map f (slice_get xs k)) w)
+by_found : {X : Type 0} (P : WorldState → Type 0) (w : WorldState) (f : X → WorldState) (xs : List X) (k : ℕ) → P w →
+    ((x : X) → slice_get xs k ≡ Some x → P (f x)) → P (unwrap_or (option_map f (slice_get xs k)) w)
 by_found {X} P w f xs k stands there = by (slice_get xs k) refl
   where
     by : (o : Option X) → slice_get xs k ≡ o → P (unwrap_or (option_map f o) w)
@@ -67,8 +68,10 @@ abbrev hosted : UploaderState → ℕ × List UploadData
 hosted u = (u.host, u.uploads)
 
 -- One uploader is changed in its states alone.
-sound_change : (w : WorldState) (at : ℕ) (u : UploaderState) (ss : List SeqState) → IsSound w → slice_get w.uploaders at ≡ Some u → length ss ≡ length u.states →
-    ((q : ℕ) → is_acknowledged (state_at ss q) ≡ true → is_acknowledged (state_at u.states q) ≡ true) → IsSound (record w { uploaders = slice_set w.uploaders at (record u { states = ss }) })
+sound_change : (w : WorldState) (at : ℕ) (u : UploaderState) (ss : List SeqState) → IsSound w → slice_get w.uploaders at ≡ Some u →
+    length ss ≡ length u.states →
+    ((q : ℕ) → is_acknowledged (state_at ss q) ≡ true → is_acknowledged (state_at u.states q) ≡ true) →
+    IsSound (record w { uploaders = slice_set w.uploaders at (record u { states = ss }) })
 sound_change w at u ss s is long was =
     let us = w.uploaders in
     let m = content w.entries in
@@ -95,7 +98,8 @@ sound_push w f s frame = record {
   once = s.once;
 }
 
-own_frame : (w : WorldState) (at : ℕ) (u : UploaderState) (seq : ℕ) → IsSound w → slice_get w.uploaders at ≡ Some u → seq < length u.states → IsOwnFrame (roster w.uploaders) (slice_index_or u.uploads seq no_upload)
+own_frame : (w : WorldState) (at : ℕ) (u : UploaderState) (seq : ℕ) → IsSound w → slice_get w.uploaders at ≡ Some u → seq < length u.states →
+    IsOwnFrame (roster w.uploaders) (slice_index_or u.uploads seq no_upload)
 own_frame w at u seq s is lt =
     let owner = all_get IsOwner w.uploaders at u s.uploaders is in
     let within : seq < length u.uploads = omega (arith, owner.paired) in
@@ -107,12 +111,14 @@ own_frame w at u seq s is lt =
       columns = (all_get IsFull u.uploads seq f owner.full there).columns;
     }
 
-sound_send : (w : WorldState) (at seq : ℕ) (u : UploaderState) → IsSound w → slice_get w.uploaders at ≡ Some u → next_of u.states ≡ Some seq → IsSound (send w at u seq)
+sound_send : (w : WorldState) (at seq : ℕ) (u : UploaderState) → IsSound w → slice_get w.uploaders at ≡ Some u → next_of u.states ≡ Some seq →
+    IsSound (send w at u seq)
 sound_send w at seq u s is next =
     let idle = sent_idle u.states seq next in
     let f = slice_index_or u.uploads seq no_upload in
     let with_frame = sound_push w f s (own_frame w at u seq s is idle.0) in
-    sound_change (record w { frames = w.frames ++ f ∷ [] }) at u (sent u.states seq) with_frame is (length-set u.states seq states.Outstanding) (acked_sent u.states seq)
+    sound_change (record w { frames = w.frames ++ f ∷ [] }) at u (sent u.states seq) with_frame is (length-set u.states seq states.Outstanding)
+    (acked_sent u.states seq)
 
 sound_tick : (w : WorldState) (at : ℕ) (u : UploaderState) → IsSound w → slice_get w.uploaders at ≡ Some u → IsSound (tick w at u)
 sound_tick w at u s is = sound_change w at u (ticked u.states) s is (length_ticked u.states) (λ q e. sym (acked_ticked u.states q) ∙ e)
@@ -181,7 +187,8 @@ sound_run (e ∷ es) w s = sound_run es (after_event w e) (sound_after w e s)
 
 -- ---- a start is sound
 
-hosts_of : (n : ℕ) (us : List UploaderState) → AllByRecursion (λ (v : UploaderState). v.host ≢ n) us → AllByRecursion (λ (s : ℕ × List UploadData). s.0 ≢ n) (roster us)
+hosts_of : (n : ℕ) (us : List UploaderState) → AllByRecursion (λ (v : UploaderState). v.host ≢ n) us →
+    AllByRecursion (λ (s : ℕ × List UploadData). s.0 ≢ n) (roster us)
 hosts_of n [] all = tt
 hosts_of n (u ∷ us) all = (all.0, hosts_of n us all.1)
 
@@ -243,7 +250,8 @@ Stays w v = (at seq : ℕ) → is_acked w at seq ≡ true → is_acked v at seq 
 pub stays_after : (w : WorldState) (e : Event) → Stays w (after_event w e)
 stays_after w e by seq had = by_event (λ (v : WorldState). is_acked v by seq ≡ true) w (record {
   stands = had;
-  sends = λ at n u is next. passes_set acked w.uploaders at by u (record u { states = sent u.states n }) is (stays_sent u.states n seq (sent_idle u.states n next).1) had;
+  sends = λ at n u is next. passes_set acked w.uploaders at by u (record u { states = sent u.states n }) is
+      (stays_sent u.states n seq (sent_idle u.states n next).1) had;
   ticks = λ at u is. passes_set acked w.uploaders at by u (record u { states = ticked u.states }) is (λ e. acked_ticked u.states seq ∙ e) had;
   applies = λ k f is. had;
   delivers = λ k f is. had;
@@ -266,7 +274,8 @@ kept_at m (u ∷ us) (suc at) seq f all there acked = kept_at m us at seq f all.
 pub law : LawOfTheWorld
 law = record {
   kept = λ w es at seq f start there acked.
-      kept_at (content (after_events es w).entries) (after_events es w).uploaders at seq f (sound_run es w (sound_start w start)).kept (same_run es w at seq ∙ there) acked;
+      kept_at (content (after_events es w).entries) (after_events es w).uploaders at seq f (sound_run es w (sound_start w start)).kept
+      (same_run es w at seq ∙ there) acked;
   once = λ w es start. (sound_run es w (sound_start w start)).once;
   same = same_after;
   grows = grows_after;

@@ -94,7 +94,8 @@ fn apply(book: &mut Book, upload: &Upload) -> Result<Reply, Memory>
     ensures kept { (book.new.shape ≡ book.old.shape) × (book.new.room ≡ book.old.room) }
     ensures reply { IfOk result (λ r.
         r ≡ reply_to upload.now (decide book.old.shape book.old.room (records book.old.entries) upload.now)) }
-    ensures entries { OnOk result (book.new.entries ≡ after book.old.shape book.old.room book.old.entries 0 upload.now) }
+    ensures entries { OnOk result
+        (book.new.entries ≡ after book.old.shape book.old.room book.old.entries 0 upload.now) }
     ensures err { OnErr result (book.new.entries ≡ book.old.entries) }
 {
     match book.check(upload) {

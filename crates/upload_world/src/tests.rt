@@ -1,4 +1,4 @@
-ghost use Rattle.std.specs.Prelude.{◌≡◌, ◌≢◌, IfOk, length};
+ghost use Rattle.std.specs.Prelude.{◌≡◌, ◌≢◌, ◌∷◌, [], IfOk};
 ghost use Rattle.std.specs.List.{AllByRecursion};
 ghost use Rattle.uploader_core.specs.Uploader.{NoneAcked};
 ghost use Rattle.upload_world.specs.Law.{HostsDiffer};
@@ -236,8 +236,8 @@ fn three_hosts(alloc: Global) -> Result<World, Fail> {
     let first = uploader(alloc, 1, uploads(alloc, 1)?)?;
     let second = uploader(alloc, 2, uploads(alloc, 2)?)?;
     let third = uploader(alloc, 3, uploads(alloc, 3)?)?;
-    let (one, two, three_) = (first.host(), second.host(), third.host());
-    if one == two || one == three_ || two == three_ {
+    let (a, b, c) = (first.host(), second.host(), third.host());
+    if a == b || a == c || b == c {
         return Err("a host twice".into());
     }
     let uploaders = three(alloc, first, second, third)?;
@@ -369,7 +369,7 @@ fn ten_thousand_events(rt: HostRuntime) -> Result<(), Fail> {
             count = count.wrapping_add(1);
         }
     }
-    // Some were refused, for a conflict or for want of room, and most were not.
+    // Some were refused, for a conflict or because the book was full, and most were not.
     assert_eq!(rt; count > 15 && count < 36, true, "{count} acknowledged");
     Ok(())
 }

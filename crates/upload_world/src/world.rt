@@ -82,9 +82,9 @@ impl World {
         self.replies.get(reply as usize).copied()
     }
 
-    /// Lets an event happen. The answer is false, and nothing changes, exactly where the event names an uploader, a frame or
-    /// a reply that isn't there, or lets an uploader send that has nothing to send. At `Memory` all is as before. Frames
-    /// and replies are fewer than 2^32 - 1 before it (docs/DEFINITIONS.md, World).
+    /// Lets an event happen. The answer is false, and nothing changes, exactly where the event names an uploader, a
+    /// frame or a reply that isn't there, or lets an uploader send that has nothing to send. At `Memory` all is as
+    /// before. Frames and replies are fewer than 2^32 - 1 before it (docs/DEFINITIONS.md, World).
     pub fn step(&mut self, event: &Event) -> Result<bool, Memory>
         requires frames { length self.old.frames < 2 ^ 32 - 1 }
         requires replies { length self.old.replies < 2 ^ 32 - 1 }
@@ -144,8 +144,8 @@ impl World {
         crash_in(&mut self.book, &self.frames, frame as usize, kept)
     }
 
-    /// Whether an upload is acknowledged: by the position of its uploader and its number, false where it isn't there. If it
-    /// is, the book has all its columns, with equal buckets.
+    /// Whether an upload is acknowledged: by the position of its uploader and its number, false where it isn't there.
+    /// If it is, the book has all its columns, with equal buckets.
     pub fn acked(&self, at: u16, seq: u32) -> bool
         ensures value { result ≡ is_acked self.now at seq }
         ensures kept { result ≡ true → (u : UploadData) → upload_in self.now at seq ≡ Some u →

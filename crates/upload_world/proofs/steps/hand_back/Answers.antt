@@ -19,4 +19,6 @@ returns c frames book =
     let shown = c.show.ensures ∙ ap (map (λ (u : UploaderState). replied u r)) c.deref_mut.ensures.value in
     let long : length c.show.new.uploaders ≡ c.args.uploaders.now.len = omega arith in
     let after = take_at c.show.new.uploaders (drop (length c.show.new.uploaders) us) c.args.uploaders.now.len long ∙ shown in
-    did w (hand_back w r) _ (Back c.args.reply) (ap (option_map (hand_back w)) (slice_get_read rs (length rs) c.args.reply r refl (ltb-true _ _ (sym look.0)) look.1)) (ap (λ (vs : List UploaderState). world_of vs frames rs book) after)
+    did w (hand_back w r) _ (Back c.args.reply) (ap (option_map (hand_back w))
+    (slice_get_read rs (length rs) c.args.reply r refl (ltb-true _ _ (sym look.0)) look.1))
+    (ap (λ (vs : List UploaderState). world_of vs frames rs book) after)

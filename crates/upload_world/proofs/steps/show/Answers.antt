@@ -10,7 +10,8 @@ loop-uploader-preserved c =
     let ys = c.loop-uploader.uploaders in
     let i = c.loop-uploader.uploader-index in
     let x = c.uploader-item.result in
-    ap (λ (u : UploaderState). set ys i u) (c.on_reply.ensures.states ∙ ap f (sym c.uploader-item.is)) ∙ map_over_more f c.args.uploaders.now ys i x c.loop-uploader-test.true c.loop-uploader.invariant c.uploader-item.is
+    ap (λ (u : UploaderState). set ys i u) (c.on_reply.ensures.states ∙ ap f (sym c.uploader-item.is))
+    ∙ map_over_more f c.args.uploaders.now ys i x c.loop-uploader-test.true c.loop-uploader.invariant c.uploader-item.is
 
 pub returns : goal.returns
 returns c =

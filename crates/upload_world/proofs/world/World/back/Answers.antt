@@ -12,6 +12,7 @@ invariant_of-self c =
     let us = i.uploaders.items in
     let fs = i.frames.items in
     let w = world_of us fs i.replies.items i.book in
-    let steps = subst (λ (rs : List Reply). Steps {E = ℕ} (world_of us fs rs i.book) (Back c.args.reply) (Ok c.hand_back.result) (world_of c.hand_back.new.uploaders.items fs rs i.book)) c.deref.ensures.value
+    let steps = subst (λ (rs : List Reply). Steps {E = ℕ} (world_of us fs rs i.book) (Back c.args.reply) (Ok c.hand_back.result)
+    (world_of c.hand_back.new.uploaders.items fs rs i.book)) c.deref.ensures.value
     (c.hand_back.ensures fs i.book) in
     world_by {E = ℕ} w _ (Back c.args.reply) (Ok c.hand_back.result) c.self.invariant steps c.self.invariant.few_frames c.self.invariant.few_replies

@@ -13,5 +13,6 @@ invariant_of-self c =
     let rs = i.replies.items in
     let e = CrashIn c.args.frame c.args.kept in
     let w = world_of us i.frames.items rs i.book in
-    let steps = subst (λ (fs : List UploadData). Steps (world_of us fs rs i.book) e c.crash_in.result (world_of us fs rs c.crash_in.new.book)) c.deref.ensures.value (c.crash_in.ensures us rs) in
+    let steps = subst (λ (fs : List UploadData). Steps (world_of us fs rs i.book) e c.crash_in.result
+    (world_of us fs rs c.crash_in.new.book)) c.deref.ensures.value (c.crash_in.ensures us rs) in
     world_by w _ e _ c.self.invariant steps c.self.invariant.few_frames c.self.invariant.few_replies

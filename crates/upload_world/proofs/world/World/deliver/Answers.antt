@@ -12,7 +12,8 @@ invariant_of-self c =
     let us = i.uploaders.items in
     let e = Deliver c.args.frame in
     let w = world_of us i.frames.items i.replies.items i.book in
-    let steps = subst (λ (fs : List UploadData). Steps (world_of us fs i.replies.items i.book) e c.deliver.result (world_of us fs c.deliver.new.replies.items c.deliver.new.book)) c.deref.ensures.value
+    let steps = subst (λ (fs : List UploadData). Steps (world_of us fs i.replies.items i.book) e c.deliver.result
+    (world_of us fs c.deliver.new.replies.items c.deliver.new.book)) c.deref.ensures.value
     (c.deliver.ensures us) in
     let room = subst (λ (x : WorldState). length x.replies < 2 ^ 32 - 1) (sym c.self.view_is) c.requires in
     world_by w _ e _ c.self.invariant steps c.self.invariant.few_frames (omega (arith, replies_by w _ e _ steps, room))
