@@ -22,7 +22,7 @@ pub(crate) fn create<D: Disk>(disk: &mut D, shape: &Shape) -> Result<(), Failed>
     ensures synced { IsSynced D.honest D.seen D.images disk.old →
         OnOk result (IsSynced D.honest D.seen D.images disk.new) }
     ensures written { IsSynced D.honest D.seen D.images disk.old → OnOk result (Spells shape.now [] (D.seen disk.new)) }
-    ensures fits { OnOk result (FitsShape shape.now) }
+    ensures fits { FitsShape shape.now }
     ensures cause { HasCause (D.faults disk.old) (D.faults disk.new) result }
 {
     let file = empty_file(shape);
