@@ -16,6 +16,8 @@ mod journal;
 mod looking;
 mod opening;
 mod synced;
+#[cfg(test)]
+mod tests;
 
 pub use applied::{Applied, ApplyFault};
 pub use book_file::OpenFault;
