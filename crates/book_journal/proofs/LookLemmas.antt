@@ -50,11 +50,12 @@ finished asked room len honest seen a b r start p long size asks has finds =
       file = file;
       held = λ h. whole_file p.bytes seen len (size h) (p.held h);
       told = subst (λ (k : ℕ). Finds asked k file r) (f.room ∙ has)
-        (subst (λ (x : Option Shape). Finds x b.room file r) (f.asked ∙ asks) (finds p.bytes (rest_of n len seen) read total));
+          (subst (λ (x : Option Shape). Finds x b.room file r) (f.asked ∙ asks) (finds p.bytes (rest_of n len seen) read total));
     }
 
 pub looked_book : (asked : Option Shape) (honest : Type 0) (seen : List ℕ) (b : BookState) (end : ℕ) (r : Result Found OpenFault) → r ≡ Ok (Book b end)
-    → ((r ≡ Err DiskFault → ⊥) → Reads honest seen (λ (file : List ℕ). Finds asked ROOM file r)) → Reads honest seen (λ (file : List ℕ). HasFound asked file (Ok (Some b)))
+    → ((r ≡ Err DiskFault → ⊥) → Reads honest seen (λ (file : List ℕ). Finds asked ROOM file r)) → Reads honest seen (λ
+      (file : List ℕ). HasFound asked file (Ok (Some b)))
 looked_book asked honest seen b end r is finds =
     let x = finds (λ e. cc) in
     record { file = x.file; held = x.held; told = holds x.file (subst (λ (s : Result Found OpenFault). Finds asked ROOM x.file s) is x.told) }

@@ -38,7 +38,8 @@ filter_few p (c ∷ cs) =
       | false ↦ omega (arith, filter_few p cs)
     ]
 
-filter_fits : (p : Column → Bool) (dims : Dims) (cs : List Column) → AllByRecursion IsColumn cs → AllByRecursion (λ (c : Column). c.dims ≡ dims) cs → AllByRecursion (IsColumnOf dims) (filter p cs)
+filter_fits : (p : Column → Bool) (dims : Dims) (cs : List Column) → AllByRecursion IsColumn cs → AllByRecursion (λ (c : Column). c.dims ≡ dims) cs
+    → AllByRecursion (IsColumnOf dims) (filter p cs)
 filter_fits p dims [] a b = tt
 filter_fits p dims (c ∷ cs) a b =
     elim (p c) as (λ (x : Bool). AllByRecursion (IsColumnOf dims) (cond x (c ∷ filter p cs) (filter p cs))) [
@@ -46,7 +47,8 @@ filter_fits p dims (c ∷ cs) a b =
       | false ↦ filter_fits p dims cs a.1 b.1
     ]
 
-module _ (shape : Shape) (room : ℕ) (es : List Entry) (pass : ℕ) (u : UploadData) (mask : ℕ) (is : checked shape room (records es) u ≡ Ok mask) (more : mask ≡ 0 → ⊥) where
+module _ (shape : Shape) (room : ℕ) (es : List Entry) (pass : ℕ) (u : UploadData) (mask : ℕ) (is : checked shape room (records es) u ≡ Ok mask)
+    (more : mask ≡ 0 → ⊥) where
   abbrev fresh : List Column
   fresh = new_columns (content es) u.columns
 
@@ -86,10 +88,12 @@ module _ (shape : Shape) (room : ℕ) (es : List Entry) (pass : ℕ) (u : Upload
     next = record {
       each = all_push (IsRecord (dims_of shape)) (records es) r old.each fits;
       apart = subst (λ (cs : List Column). IsDistinct same_column_key (keys_of cs)) (sym (columns_push (records es) r))
-        (apart_join (columns_in (records es)) fresh old.apart (distinct_new (is_new (content es)) u.columns full.columns.apart)
+          (apart_join (columns_in (records es)) fresh old.apart (distinct_new (is_new (content es)) u.columns full.columns.apart)
           (recursion_from_All (λ c. is_new (content es) c ≡ true) fresh (filter_passes (is_new (content es)) u.columns)));
     }
 
-    pub in_range : (end : ℕ) (put : List ℕ) → end ≡ length (front shape (records es)) → room ≤ ROOM → FitsShape shape → put ≡ body r ++ 0 ∷ [] → end + 1 + length put ≤ 2 ^ 40
+    pub in_range : (end : ℕ) (put : List ℕ) → end ≡ length (front shape (records es)) → room ≤ ROOM → FitsShape shape → put ≡ body r ++ 0 ∷ []
+      → end + 1 + length put ≤ 2 ^ 40
     in_range end put place small shape_fits puts =
-        omega (arith, place, small, few, lengths shape (records es ++ r ∷ []) shape_fits next, ap length (front_push shape (records es) r), length-append (front shape (records es)) (1 ∷ body r), ap length puts, length-append (body r) (0 ∷ []))
+        omega (arith, place, small, few, lengths shape (records es ++ r ∷ []) shape_fits next, ap length (front_push shape (records es) r), length-append
+          (front shape (records es)) (1 ∷ body r), ap length puts, length-append (body r) (0 ∷ []))

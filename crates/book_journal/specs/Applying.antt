@@ -15,7 +15,8 @@ use Rattle.book_journal.specs.Crashes.{Leaves}
 use Rattle.book_journal.specs.Runs.{JournalState, Start, IsRun}
 
 -- No call of the disk failed, and by the journal's records the upload comes to this.
-pub record ComesTo {D : Type 0} (u : UploadData) (j : JournalState D) (r : Result (List Column) BookFault) : Type 0 where
+pub record ComesTo {D : Type 0} (u : UploadData) (j : JournalState D) (r : Result (List Column) BookFault)
+    : Type 0 where
   pub whole : j.fault ≡ None
   pub decides : decide j.shape j.room (records j.entries) u ≡ r
 
@@ -24,17 +25,19 @@ pub record HasNew {D : Type 0} (pass : ℕ) (u : UploadData) (j : JournalState D
   pub comes : ComesTo u j (Ok (stored_entry pass j.entries u).stored.columns)
   pub some : 1 ≤ length (stored_entry pass j.entries u).stored.columns
 
--- The journal with one entry more, and the one that met a fault of its disk while it stored an entry.
+-- The journal with one entry more; and the journal that met a fault of its disk while it stored an entry.
 abbrev pub with_entry : {D : Type 0} → (pass : ℕ) → UploadData → D → JournalState D → JournalState D
 with_entry pass u disk j = record j { entries = j.entries ++ stored_entry pass j.entries u ∷ []; disk = disk }
 
 abbrev pub broken : {D : Type 0} → (pass : ℕ) → UploadData → D → JournalState D → JournalState D
 broken pass u disk j = record j { fault = Some (stored_entry pass j.entries u); disk = disk }
 
--- What is so at each answer to an upload. Only where some columns are new is memory or the disk wanted, and only then is
--- the journal changed.
-abbrev pub Answers : {D : Type 0} → (pass : ℕ) → UploadData → (old new : JournalState D) → Result Applied ApplyFault → Type 0
-Answers pass u old new (Ok (Stored p)) = HasNew pass u old × (p ≡ length old.entries) × (new ≡ with_entry pass u new.disk old)
+-- What is so at each answer to an upload. Only where some columns are new is memory or the disk wanted, and only then
+-- is the journal changed.
+abbrev pub Answers : {D : Type 0} → (pass : ℕ) → UploadData → (old new : JournalState D)
+    → Result Applied ApplyFault → Type 0
+Answers pass u old new (Ok (Stored p)) =
+    HasNew pass u old × (p ≡ length old.entries) × (new ≡ with_entry pass u new.disk old)
 Answers pass u old new (Ok Known) = ComesTo u old (Ok []) × (new ≡ old)
 Answers pass u old new (Err (Broken n)) = IsSome old.fault × (n ≡ length old.entries) × (new ≡ old)
 Answers pass u old new (Err (WrongShape kept came)) = ComesTo u old (Err (book.WrongShape kept came)) × (new ≡ old)
@@ -51,7 +54,8 @@ abbrev pub IsAfter : {D : Type 0} → (pass : ℕ) → UploadData → JournalSta
 IsAfter pass u j c = StandsFor j.shape (records (j.entries ++ stored_entry pass j.entries u ∷ [])) c
 
 -- What a crash during the call leaves.
-abbrev pub IsDuring : {D : Type 0} → (pass : ℕ) → UploadData → JournalState D → Result Applied ApplyFault → List ℕ → Type 0
+abbrev pub IsDuring : {D : Type 0} → (pass : ℕ) → UploadData → JournalState D
+    → Result Applied ApplyFault → List ℕ → Type 0
 IsDuring pass u j (Ok (Stored p)) c = IsBefore j c ⊎ IsAfter pass u j c
 IsDuring pass u j (Ok Known) c = IsBefore j c
 IsDuring pass u j (Err (Broken n)) c = IsBefore j c
@@ -62,7 +66,8 @@ IsDuring pass u j (Err Memory) c = IsBefore j c
 IsDuring pass u j (Err DiskFault) c = IsBefore j c ⊎ IsAfter pass u j c
 
 -- What a crash after it leaves: at `Stored` the new record is there.
-abbrev pub IsThen : {D : Type 0} → (pass : ℕ) → UploadData → JournalState D → Result Applied ApplyFault → List ℕ → Type 0
+abbrev pub IsThen : {D : Type 0} → (pass : ℕ) → UploadData → JournalState D
+    → Result Applied ApplyFault → List ℕ → Type 0
 IsThen pass u j (Ok (Stored p)) c = IsAfter pass u j c
 IsThen pass u j (Ok Known) c = IsBefore j c
 IsThen pass u j (Err (Broken n)) c = IsBefore j c
@@ -72,10 +77,10 @@ IsThen pass u j (Err (Full held more)) c = IsBefore j c
 IsThen pass u j (Err Memory) c = IsBefore j c
 IsThen pass u j (Err DiskFault) c = IsBefore j c ⊎ IsAfter pass u j c
 
--- What an apply does, whatever it answers. On an honest disk, where no call of the disk had failed, a crash leaves what is
+-- What an apply does, whatever it answers. On an honest disk, where no call of it had failed, a crash leaves what is
 -- said above. Every run of the journal goes on.
-pub record Applies {D : Type 0} (honest : D → Type 0) (seen : D → List ℕ) (images : D → List ℕ → Type 0) (moment : D → ℕ)
-    (since : D → ℕ → List ℕ → Type 0) (pass : ℕ) (u : UploadData) (old new : JournalState D)
+pub record Applies {D : Type 0} (honest : D → Type 0) (seen : D → List ℕ) (images : D → List ℕ → Type 0)
+    (moment : D → ℕ) (since : D → ℕ → List ℕ → Type 0) (pass : ℕ) (u : UploadData) (old new : JournalState D)
     (result : Result Applied ApplyFault) : Type 0 where
   pub answers : Answers pass u old new result
   pub crash : honest old.disk → old.fault ≡ None → Leaves moment since (IsDuring pass u old result) old.disk new.disk

@@ -12,4 +12,10 @@ abbrev pub entry_of : List Entry → Attempt → Entry
 entry_of es a = stored_entry a.pass es a.upload.value
 
 abbrev pub state_of : {D : Type 0} → D → BookState → Option Attempt → JournalState D
-state_of disk b fault = record { shape = b.shape; room = b.room; entries = b.entries; fault = option_map (entry_of b.entries) fault; disk = disk }
+state_of disk b fault = record {
+  shape = b.shape;
+  room = b.room;
+  entries = b.entries;
+  fault = option_map (entry_of b.entries) fault;
+  disk = disk;
+}

@@ -14,9 +14,9 @@ use Rattle.book_journal.specs.Runs.{JournalState, IsPlaced}
 abbrev pub AreSettled : Shape → List UploadData → (List ℕ → Type 0) → Type 0
 AreSettled shape rs files = (c : List ℕ) → files c → StandsFor shape rs c
 
--- What opening leaves of an honest disk, whatever the answer. A crash at any moment of it leaves what it might have left
--- at its start, or a file that stands for the list of the file as read; from a disk that was settled, only that. A file
--- that isn't blank is not changed, and a blank one still stands for the empty list.
+-- What opening leaves of an honest disk, whatever the answer. A crash at any moment of it leaves what it might have
+-- left at its start, or a file that stands for the list of the file as read; from a disk that was settled, only such a
+-- file. A file that isn't blank reads as before, and what a read gives stands for each list that it stood for.
 pub record OpenLeaves {D : Type 0} (honest : D → Type 0) (seen : D → List ℕ) (images : D → List ℕ → Type 0)
     (moment : D → ℕ) (since : D → ℕ → List ℕ → Type 0) (shape : Shape) (old new : D) : Type 0 where
   pub still : honest new

@@ -12,7 +12,7 @@ use Rattle.book_file.specs.File.{front, AreRecords, Spells, StandsFor}
 use Rattle.book_file.specs.Found.{count_of}
 use Rattle.book_journal.specs.Crashes.{IsSynced}
 
--- A journal: the shape and the room of its book, its entries, the entry that may be on the disk where a call of the disk
+-- A journal: the shape and the room of its book, its entries, the entry that may be on the disk where a call of it
 -- failed, and the disk.
 pub record JournalState (D : Type 0) : Type 0 where
   pub shape : Shape
@@ -44,9 +44,10 @@ pub record Start (D : Type 0) : Type 0 where
 abbrev pub start_of : {D : Type 0} → (D → List ℕ) → (D → ℕ) → JournalState D → Start D
 start_of seen moment j = record { disk = j.disk; moment = moment j.disk; entries = j.entries; file = seen j.disk }
 
--- A journal on an honest disk is a run from a start. Its entries begin with those of the start. A crash since the start
--- left what it might have left before, or a file between the start's entries and the journal's, with the one that may be
--- on the disk. A crash now leaves the journal's entries, or these and that one.
+-- A journal on an honest disk is a run from a start. Its entries begin with those of the start. A crash since the
+-- start left what it might have left before, or a file between the start's entries and the journal's, with the one that
+-- may be on the disk. A crash now leaves the journal's entries, or these and that one. Where no call of the disk failed
+-- and no entry came, a read gives the start's file.
 pub record IsRun {D : Type 0} (honest : D → Type 0) (seen : D → List ℕ) (images : D → List ℕ → Type 0) (moment : D → ℕ)
     (since : D → ℕ → List ℕ → Type 0) (s : Start D) (j : JournalState D) : Type 0 where
   pub told : honest j.disk
@@ -74,8 +75,8 @@ pub record IsPlaced (shape : Shape) (room : ℕ) (rs : List UploadData) (end : �
   pub small : room ≤ ROOM
   pub place : end ≡ length (front shape rs)
 
--- What holds of every journal: its records end in a gate at `end`, and where no call of the disk failed, an honest disk is
--- settled.
+-- What holds of every journal: its records end in a gate at `end`, and where no call of the disk failed, an honest disk
+-- is settled.
 pub record IsSound {D : Type 0} (honest : D → Type 0) (seen : D → List ℕ) (images : D → List ℕ → Type 0) (end : ℕ)
     (j : JournalState D) : Type 0 where
   pub placed : IsPlaced j.shape j.room (records j.entries) end

@@ -12,8 +12,8 @@ use lg_disk::Disk;
 use lg_model::Shape;
 
 // Makes a blank file the empty journal of a shape, in eight calls of the disk. The file is cut to nothing and gets a
-// closed gate; then the rest stands after that gate before it is opened. A crash at any moment leaves a blank file or the
-// empty journal.
+// closed gate; then the rest is written after that gate, and it is opened. A crash at any moment leaves a blank file or
+// the empty journal.
 pub(crate) fn create<D: Disk>(disk: &mut D, shape: &Shape) -> Result<(), Failed>
     ensures still { D.honest disk.old → D.honest disk.new }
     ensures was { D.honest disk.new → D.honest disk.old }

@@ -27,7 +27,8 @@ use std::alloc::Global;
 use std::marker::Model;
 use std::snapshot::Snapshot;
 
-/// A book whose records stand in the file of a disk.
+/// A book whose records stand in the file of a disk. Contracts see it as its shape, its room, its entries, the entry
+/// that may be on the disk where a call of it failed, and the disk.
 #[derive(Drop)]
 pub struct Journal<D: Disk> {
     alloc: Global,
@@ -51,19 +52,30 @@ impl<D: Disk> Model for Journal<D> {
 }
 
 impl<D: Disk> Journal<D> {
-    /// Opens the file of a disk, for sketches of a shape and at most `room` columns, which is 1 to `ROOM`. A blank file is
-    /// made the empty journal. The file is made durable first, so that what is read stays.
-    pub fn open(alloc: Global, disk: D, shape: &Shape, room: u32) -> Result<Journal<D>, (OpenFault, D)>
+    /// Opens the file of a disk, for sketches of a shape and at most `room` columns, which is 1 to `ROOM`
+    /// (docs/FORMATS.md, The book file). The file is made durable first, so that what is read stays. A blank one is
+    /// made the empty journal. The entries that are read have pass 0.
+    ///
+    /// A refused file is told by its first fault, `NotAJournal`, `WrongShape`, `Damaged` or `Full`, and was only read.
+    /// `DiskFault` comes only where the disk's count of faults rose, or stands at its last value. Whatever the answer,
+    /// a file that isn't blank is as before, and a blank one still stands for the empty list; so it is after a crash.
+    pub fn open(
+        alloc: Global,
+        disk: D,
+        shape: &Shape,
+        room: u32,
+    ) -> Result<Journal<D>, (OpenFault, D)>
         requires some { 1 ≤ room }
         requires few { room ≤ ROOM }
         ensures book { IfOk result (λ j. IsNew shape.now room j) }
         ensures stands { D.honest disk → IfOk result (λ j. StandsFor shape.now (records j.entries) (D.seen disk)) }
-        ensures leaves { D.honest disk → OpenLeaves D.honest D.seen D.images D.moment D.since shape.now disk (disk_of result) }
+        ensures leaves { D.honest disk →
+            OpenLeaves D.honest D.seen D.images D.moment D.since shape.now disk (disk_of result) }
         ensures untouched { D.honest disk → (IsBlank (D.seen disk) → ⊥) →
             OnlyReads D.honest D.seen D.images D.moment D.since disk (disk_of result) }
         ensures refused { IfErr result (λ e.
             Reads (D.honest disk) (D.seen disk) (λ file. IsRefused shape.now room file e.0)) }
-        // A file that stands for a list which there is room for is refused only for want of memory or a fault of the disk.
+        // A file that stands for a list which there is room for has no fault of its own.
         ensures complete { D.honest disk → (rs : List UploadData) → StandsFor shape.now rs (D.seen disk) →
             count_of rs ≤ room → IfErr result (λ e. IsOutside e.0) }
         ensures never_falls { D.faults disk ≤ D.faults (disk_of result) }
@@ -82,8 +94,14 @@ impl<D: Disk> Journal<D> {
         }
     }
 
-    /// Applies an upload: what is new of it is stored as one record, by four calls of the disk, after all memory is taken.
-    /// At `Stored` every crash from then on leaves it.
+    /// Applies an upload (docs/DEFINITIONS.md, Apply): what is new of it is stored as one record. All memory is taken
+    /// first; then four calls of the disk append the record, so that no crash can tear it.
+    ///
+    /// `Stored` says its position, from 0: every crash from then on leaves it. At `Known` all its columns are there.
+    /// The faults are looked for in this order. `Broken` comes exactly where an earlier call answered `DiskFault`; then
+    /// `WrongShape`, `Conflict` and `Full`, as the book finds them; then `Memory`. At all of these, journal and disk
+    /// are as before. `DiskFault` comes only where the disk's count of faults rose, or stands at its last value: then the
+    /// book is as before, the disk may or may not have the record, and the journal is broken for good.
     pub fn apply(&mut self, pass: u32, upload: &Upload) -> Result<Applied, ApplyFault>
         ensures applies { Applies D.honest D.seen D.images D.moment D.since pass upload.now self.old self.new result }
         ensures still { D.honest self.old.disk → D.honest self.new.disk }
@@ -120,8 +138,8 @@ impl<D: Disk> Journal<D> {
         &self.book
     }
 
-    /// Whether a call of the disk failed in an `apply`. Where none did, an honest disk is synced and its file stands for the
-    /// entries, and the journal is a run from where it stands.
+    /// Whether a call of [`Journal::apply`] met a fault of the disk. If none did, an honest disk is synced, its file
+    /// stands for the entries, and the journal is a run from where it stands.
     pub fn is_broken(&self) -> bool
         ensures value { result ≡ is_some self.now.fault }
         ensures settled { D.honest self.now.disk → result ≡ false → IsSettled D.honest D.seen D.images self.now }

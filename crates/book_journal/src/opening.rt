@@ -18,7 +18,12 @@ use lg_model::Shape;
 use std::alloc::Global;
 
 // Makes the file durable, and reads it.
-fn read_synced<D: Disk>(alloc: Global, disk: &mut D, shape: &Shape, room: u32) -> Result<Found, OpenFault>
+fn read_synced<D: Disk>(
+    alloc: Global,
+    disk: &mut D,
+    shape: &Shape,
+    room: u32,
+) -> Result<Found, OpenFault>
     requires some { 1 ≤ room }
     requires few { room ≤ ROOM }
     ensures reads { OnlyReads D.honest D.seen D.images D.moment D.since disk.old disk.new }
@@ -34,7 +39,12 @@ fn read_synced<D: Disk>(alloc: Global, disk: &mut D, shape: &Shape, room: u32) -
 }
 
 // An empty book, and the empty journal in place of a blank file. All memory is taken first.
-fn begin<D: Disk>(alloc: Global, disk: &mut D, shape: &Shape, room: u32) -> Result<(Book, u64), OpenFault>
+fn begin<D: Disk>(
+    alloc: Global,
+    disk: &mut D,
+    shape: &Shape,
+    room: u32,
+) -> Result<(Book, u64), OpenFault>
     requires some { 1 ≤ room }
     requires few { room ≤ ROOM }
     ensures still { D.honest disk.old → D.honest disk.new }
@@ -57,11 +67,17 @@ fn begin<D: Disk>(alloc: Global, disk: &mut D, shape: &Shape, room: u32) -> Resu
 }
 
 // The book of the file, and the offset of the gate after its records.
-pub(crate) fn prepare<D: Disk>(alloc: Global, disk: &mut D, shape: &Shape, room: u32) -> Result<(Book, u64), OpenFault>
+pub(crate) fn prepare<D: Disk>(
+    alloc: Global,
+    disk: &mut D,
+    shape: &Shape,
+    room: u32,
+) -> Result<(Book, u64), OpenFault>
     requires some { 1 ≤ room }
     requires few { room ≤ ROOM }
     ensures was { D.honest disk.new → D.honest disk.old }
-    ensures leaves { D.honest disk.old → OpenLeaves D.honest D.seen D.images D.moment D.since shape.now disk.old disk.new }
+    ensures leaves { D.honest disk.old →
+        OpenLeaves D.honest D.seen D.images D.moment D.since shape.now disk.old disk.new }
     ensures untouched { D.honest disk.old → (IsBlank (D.seen disk.old) → ⊥) →
         OnlyReads D.honest D.seen D.images D.moment D.since disk.old disk.new }
     ensures opened { D.honest disk.old →

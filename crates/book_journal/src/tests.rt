@@ -5,8 +5,8 @@ use lg_model::{Bucket, Dims, Hash};
 use std::alloc::Global;
 use std::test::Fail;
 
-// The book file of one upload of host 1, seq 0: 2 rows of width 1, places by ports, and a column of switch 1, epoch 0 with
-// 1,500 bytes and 20 microseconds in both rows.
+// The book file of one upload of host 1, seq 0: 2 rows of width 1, places by ports, and a column of switch 1, epoch 0,
+// with 1,500 bytes and 20 microseconds in both rows.
 const FILE: [u8; 46] = [
     0x01, 0x4C, 0x47, 0x42, 0x31, 2, 0, 1, 0, 0, 0, 0, 0, 0, 0, 0, 0, 1, 0, 1, 0, 0, 0, 0, 1, 0, 1,
     0, 0, 0, 0, 0, 0, 0, 0, 5, 0xDC, 0, 20, 0, 0, 5, 0xDC, 0, 20, 0,
@@ -90,14 +90,21 @@ fn a_file_of_two_records(rt: HostRuntime) -> Result<(), Fail> {
     };
     assert_eq!(rt; journal.book().records(), 2);
     assert_eq!(rt; journal.apply(0, &upload(alloc, 1)?), Ok(Applied::Known));
-    assert_eq!(rt; journal.apply(0, &upload(alloc, 2)?), Ok(Applied::Stored(2)));
-    assert_eq!(rt; journal.apply(0, &upload(alloc, 3)?), Err(ApplyFault::Full { held: 3, more: 1 }));
-    let (_, disk) = journal.close();
-    assert_eq!(rt; &disk.bytes()[..73], &file[..73]);
-    assert_eq!(rt; disk.bytes()[73], 1);
-    assert_eq!(rt; disk.bytes()[101], 0);
-    assert_eq!(rt; &disk.bytes()[102..], &file[102..]);
-    assert_eq!(rt; records_in(alloc, disk.bytes().to_vec(alloc)?)?, 3);
+    assert_eq!(rt;
+        journal.apply(0, &upload(alloc, 2)?),
+        Ok(Applied::Stored(2))
+    );
+    assert_eq!(rt;
+        journal.apply(0, &upload(alloc, 3)?),
+        Err(ApplyFault::Full { held: 3, more: 1 })
+    );
+    let mut want = file;
+    want[73] = 1;
+    want[74..101].copy_from_slice(&FILE[18..45]);
+    want[79] = 2;
+    want[86] = 2;
+    want[101] = 0;
+    assert_eq!(rt; journal.close().1.bytes(), want.as_slice());
     Ok(())
 }
 
@@ -143,21 +150,25 @@ fn run_until(alloc: Global, k: u32) -> Result<(u32, MemoryDisk), Fail> {
         Ok(journal) => journal,
         Err((_, disk)) => return Ok((0, disk)),
     };
-    let mut stored = 0;
     for seq in 0..3 {
         match journal.apply(0, &upload(alloc, seq)?) {
-            Ok(_) => stored += 1,
+            Ok(_) => {}
             Err(ApplyFault::DiskFault) => break,
             Err(_) => return Err("another fault".into()),
         }
     }
+    let stored = journal.book().records();
     if stored < 3 {
         assert_broken(&mut journal, stored, &upload(alloc, 3)?)?;
     }
     Ok((stored, journal.close().1))
 }
 
-fn assert_broken<D: Disk>(journal: &mut Journal<D>, records: u32, next: &Upload) -> Result<(), Fail> {
+fn assert_broken<D: Disk>(
+    journal: &mut Journal<D>,
+    records: u32,
+    next: &Upload,
+) -> Result<(), Fail> {
     if !journal.is_broken() {
         return Err("not broken".into());
     }
