@@ -1,12 +1,10 @@
 -- What an apply does, by the fields of the journal.
-use Rattle.std.proofs.Common.{◌≡◌, ◌⊎◌, inl, inr, ℕ, ◌+◌, ◌<◌, ◌≤◌, ◌^◌, Bool, true, false, List, [], ◌∷◌, ◌++◌, length, take, drop, map, Option, None, Some, Result, Ok, Err, refl, sym, ◌∙◌, ap, subst, arith}
+use Rattle.std.proofs.Common.{◌≡◌, ℕ, ◌+◌, ◌<◌, ◌≤◌, ◌^◌, Bool, false, List, [], ◌∷◌, ◌++◌, length, take, drop, map, Option, None, Some, Result, Ok, Err, refl, sym, ◌∙◌, ap, subst}
 use Rattle.std.specs.Prelude.{IsErrAnd, is_some, filter}
 use Rattle.std.specs.Option.{option_map}
 use Rattle.lg_model.specs.Columns.{Column, dims_of}
 use Rattle.sketchlet_wire.specs.Uploads.{UploadData, IsFull, upload_of}
 use Rattle.column_book.specs.declared.entry.Entry.{Entry}
-use Rattle.column_book.specs.declared.fault.BookFault.{BookFault}
-use Rattle.column_book.specs.declared.book.TheConstants.{ROOM}
 use Rattle.column_book.specs.Entries.{BookState, records, content}
 use Rattle.column_book.specs.Applying.{is_new, mask_of, decide, checked, stored_entry}
 use Rattle.column_book.proofs.Applying.{checked_ok}

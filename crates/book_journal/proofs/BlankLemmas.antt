@@ -1,5 +1,5 @@
 -- What a crash leaves while a blank file is made the empty journal.
-use Rattle.std.proofs.Common.{◌≡◌, ◌⊎◌, inl, inr, ⊎_elim, ℕ, ◌+◌, ◌<◌, ◌≤◌, List, [], ◌∷◌, ◌++◌, length, get_or, take, drop, refl, sym, ◌∙◌, ap, subst, arith, length-take, length-append}
+use Rattle.std.proofs.Common.{◌≡◌, inl, inr, ⊎_elim, ℕ, ◌+◌, ◌≤◌, List, [], ◌∷◌, ◌++◌, length, get_or, take, drop, refl, sym, ◌∙◌, ap, subst, arith, length-take, length-append}
 use Rattle.std.specs.List.{IsDistinct}
 use Rattle.std.proofs.lemmas.Bool.{cases_eq, cases_lt}
 use Rattle.std.proofs.lemmas.List.{append-nil, get_or-take, take_all}
@@ -7,7 +7,6 @@ use Rattle.lg_disk.specs.Disk.{Holds, Shorter, Torn}
 use Rattle.lg_model.specs.Columns.{dims_of}
 use Rattle.lg_model.specs.Placing.{Shape}
 use Rattle.sketchlet_wire.specs.ShapeFields.{FitsShape, shape_bytes}
-use Rattle.sketchlet_wire.specs.Uploads.{UploadData}
 use Rattle.book_file.specs.File.{header, AreRecords, IsBlank, Spells, StandsFor}
 use Rattle.book_file.proofs.Heads.{header_len}
 use Rattle.book_journal.specs.Crashes.{Appending}

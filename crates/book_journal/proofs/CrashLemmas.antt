@@ -1,5 +1,5 @@
 -- What a crash leaves during a run of calls, one after the other.
-use Rattle.std.proofs.Common.{◌≡◌, ◌⊎◌, inl, inr, ⊎_elim, ℕ, ◌≤◌, List, refl, sym, subst, arith, Result, Ok, Err, OnOk}
+use Rattle.std.proofs.Common.{inl, inr, ⊎_elim, ℕ, ◌≤◌, List, sym, subst, arith, Result, Ok, Err, OnOk}
 use Rattle.lg_disk.specs.Disk.{Course, Same, Shorter, Torn}
 use Rattle.book_journal.specs.Crashes.{IsSynced, Leaves}
 

@@ -1,14 +1,14 @@
 -- What was read of a file, and what is answered of it.
-use Rattle.std.proofs.Common.{◌≡◌, ◌⊎◌, inl, inr, ℕ, ◌+◌, ◌≤◌, List, [], ◌++◌, length, take, Option, None, Some, Result, Ok, Err, refl, sym, ◌∙◌, ap, subst, arith, length-append}
+use Rattle.std.proofs.Common.{◌≡◌, ◌⊎◌, inl, inr, ℕ, ◌≤◌, List, [], ◌++◌, length, take, Option, Some, Result, Ok, Err, refl, sym, ◌∙◌, ap, subst, arith, length-append}
 use Rattle.lg_model.specs.Placing.{Shape}
 use Rattle.column_book.specs.declared.book.TheConstants.{ROOM}
 use Rattle.column_book.specs.Entries.{BookState}
 use Rattle.book_file.specs.declared.found.OpenFault.{OpenFault}
 use Rattle.book_file.specs.declared.found.OpenFault.TheVariants.{DiskFault, NotAJournal, WrongShape, Damaged, Full, Memory}
 use Rattle.book_file.specs.declared.found.Found.{Found}
-use Rattle.book_file.specs.declared.found.Found.TheVariants.{Blank, Book}
+use Rattle.book_file.specs.declared.found.Found.TheVariants.{Book}
 use Rattle.book_file.specs.Found.{Finds, Holds}
-use Rattle.book_file.specs.Walk.{WalkState, HasRead, Fed}
+use Rattle.book_file.specs.Walk.{WalkState, HasRead}
 use Rattle.book_file.proofs.Law.{not_blank}
 use Rattle.book_journal.specs.Looking.{Reads, IsFed, HasFound, HoldsBook}
 use Rattle.book_journal.proofs.PieceLemmas.{rest_of, rest_len, whole_file}

@@ -1,5 +1,5 @@
 -- What opening a journal leaves.
-use Rattle.std.proofs.Common.{◌≡◌, ◌⊎◌, inl, inr, ⊎_elim, ℕ, ◌+◌, ◌≤◌, List, [], ◌∷◌, ◌++◌, length, map, Option, None, Some, Result, Ok, Err, refl, sym, ◌∙◌, ap, subst, arith}
+use Rattle.std.proofs.Common.{◌≡◌, ◌⊎◌, inl, inr, ⊎_elim, ℕ, ◌≤◌, List, [], length, Some, Result, Ok, Err, refl, sym, ◌∙◌, ap, subst, arith}
 use Rattle.std.proofs.lemmas.List.{append-nil}
 use Rattle.lg_model.specs.Placing.{Shape}
 use Rattle.sketchlet_wire.specs.ShapeFields.{FitsShape}
@@ -9,18 +9,18 @@ use Rattle.column_book.specs.Entries.{BookState, records}
 use Rattle.book_file.specs.declared.found.OpenFault.{OpenFault}
 use Rattle.book_file.specs.declared.found.OpenFault.TheVariants.{DiskFault, NotAJournal, WrongShape, Damaged, Full, Memory}
 use Rattle.book_file.specs.declared.found.Found.{Found}
-use Rattle.book_file.specs.declared.found.Found.TheVariants.{Blank, Book}
-use Rattle.book_file.specs.File.{header, front, IsBlank, Spells, StandsFor}
-use Rattle.book_file.specs.Found.{Finds, Holds, Suits, book_of, count_of, read_entry}
+use Rattle.book_file.specs.declared.found.Found.TheVariants.{Blank}
+use Rattle.book_file.specs.File.{header, IsBlank, Spells, StandsFor}
+use Rattle.book_file.specs.Found.{Finds, Holds, book_of, count_of}
 use Rattle.book_file.proofs.Heads.{header_len}
 use Rattle.book_file.proofs.Complete.{whole_law}
 use Rattle.book_file.proofs.Law.{blank_law}
 use Rattle.book_journal.specs.Crashes.{IsSynced, Leaves, OnlyReads}
 use Rattle.book_journal.specs.Looking.{Reads}
-use Rattle.book_journal.specs.Opening.{AreSettled, IsOpened, IsOutside, IsRead, IsRefused, OpenLeaves}
+use Rattle.book_journal.specs.Opening.{IsOutside, IsRead, IsRefused, OpenLeaves}
 use Rattle.book_journal.specs.Runs.{IsPlaced}
 use Rattle.book_journal.proofs.BlankLemmas.{no_records}
-use Rattle.book_journal.proofs.CrashLemmas.{after, image_has}
+use Rattle.book_journal.proofs.CrashLemmas.{after}
 
 module _ {D : Type 0} (honest : D → Type 0) (seen : D → List ℕ) (images : D → List ℕ → Type 0) (moment : D → ℕ) (since : D → ℕ → List ℕ → Type 0)
     (shape : Shape) where

@@ -1,7 +1,7 @@
 -- Calls that only read, one after the other.
-use Rattle.std.proofs.Common.{◌≡◌, ◌⊎◌, inl, inr, ⊎_elim, ℕ, ◌≤◌, List, refl, sym, ◌∙◌, subst, arith}
-use Rattle.lg_disk.specs.Disk.{Course, Same, Only}
-use Rattle.book_journal.specs.Crashes.{IsSynced, Leaves, OnlyReads}
+use Rattle.std.proofs.Common.{◌≡◌, inl, ℕ, ◌≤◌, List, refl, sym, ◌∙◌, subst, arith}
+use Rattle.lg_disk.specs.Disk.{Course, Same}
+use Rattle.book_journal.specs.Crashes.{IsSynced, OnlyReads}
 use Rattle.book_journal.proofs.CrashLemmas.{after, called, image_has}
 
 module _ {D : Type 0} (honest : D → Type 0) (seen : D → List ℕ) (images : D → List ℕ → Type 0) (moment : D → ℕ) (since : D → ℕ → List ℕ → Type 0) where

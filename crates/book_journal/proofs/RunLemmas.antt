@@ -1,13 +1,11 @@
 -- What a journal's calls leave, and that they keep every run.
-use Rattle.std.proofs.Common.{◌≡◌, ◌⊎◌, inl, inr, ⊎_elim, ℕ, ◌+◌, ◌<◌, ◌≤◌, List, [], ◌∷◌, ◌++◌, length, take, drop, Option, None, Some, Result, Ok, Err, refl, sym, ◌∙◌, ap, subst, arith, append_assoc, length-append}
+use Rattle.std.proofs.Common.{◌≡◌, ◌⊎◌, inl, inr, ⊎_elim, ℕ, ◌+◌, ◌<◌, ◌≤◌, List, [], ◌∷◌, ◌++◌, length, take, drop, Option, None, Result, Ok, Err, refl, sym, ◌∙◌, ap, subst, arith, append_assoc, length-append}
 use Rattle.std.proofs.lemmas.List.{append-nil, map-append}
 use mathlib.Core.List.{IsPrefix}
-use Rattle.lg_disk.specs.Disk.{Only}
 use Rattle.lg_model.specs.Placing.{Shape}
 use Rattle.lg_model.specs.Columns.{dims_of}
 use Rattle.sketchlet_wire.specs.Uploads.{UploadData}
 use Rattle.column_book.specs.declared.entry.Entry.{Entry}
-use Rattle.column_book.specs.declared.book.TheConstants.{ROOM}
 use Rattle.column_book.specs.Entries.{records}
 use Rattle.column_book.specs.Applying.{stored_entry}
 use Rattle.book_file.specs.File.{body, front, AreRecords, Spells, StandsFor}
@@ -19,7 +17,7 @@ use Rattle.book_journal.specs.declared.applied.ApplyFault.{ApplyFault}
 use Rattle.book_journal.specs.declared.applied.ApplyFault.TheVariants.{DiskFault}
 use Rattle.book_journal.specs.Applying.{Answers, Applies, HasNew, IsBefore, IsAfter, IsDuring, IsThen, with_entry, broken}
 use Rattle.book_journal.specs.Crashes.{IsSynced, Leaves, Appending}
-use Rattle.book_journal.specs.Runs.{JournalState, Start, IsBetween, IsRun, IsPlaced, IsSettled, IsSound, start_of, with_fault}
+use Rattle.book_journal.specs.Runs.{JournalState, Start, IsBetween, IsRun, IsSettled, IsSound, start_of, with_fault}
 use Rattle.book_journal.proofs.CrashLemmas.{widen}
 use Rattle.book_journal.proofs.FileLemmas.{inside, before_or_after, with_it}
 use Rattle.book_journal.proofs.StoredLemmas.{records_push}

@@ -1,4 +1,4 @@
-use Rattle.std.proofs.Common.{◌≡◌, ◌<◌, ℕ, List, [], ◌∷◌, length, take, drop, inl, refl, ap, arith}
+use Rattle.std.proofs.Common.{◌<◌, [], length, take, drop, inl, refl, ap, arith}
 use Rattle.lg_disk.specs.Disk.{Shorter, Torn}
 use Rattle.book_file.specs.File.{StandsFor}
 use Rattle.book_journal.specs.Crashes.{Appending}

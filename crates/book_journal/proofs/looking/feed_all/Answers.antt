@@ -1,4 +1,4 @@
-use Rattle.std.proofs.Common.{◌≡◌, ◌+◌, ◌≤◌, ◌∙◌, ℕ, List, length, take, drop, sym, ap, subst, arith}
+use Rattle.std.proofs.Common.{◌≡◌, ◌+◌, ◌≤◌, ◌∙◌, ℕ, length, take, drop, sym, ap, arith}
 use Rattle.std.proofs.lemmas.List.{length-take}
 use Rattle.book_journal.proofs.ReadLemmas.{then_read}
 use Rattle.book_journal.proofs.PieceLemmas.{is_fed_then}

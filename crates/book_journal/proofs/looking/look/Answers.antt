@@ -1,4 +1,4 @@
-use Rattle.std.proofs.Common.{◌≡◌, ◌∙◌, ap, Ok}
+use Rattle.std.proofs.Common.{◌∙◌, ap, Ok}
 use Rattle.book_file.specs.declared.found.Found.{Found}
 use Rattle.book_journal.proofs.LookLemmas.{looked_book, looked_fault}
 use Rattle.book_journal.proofs.looking.look.Goals as goal

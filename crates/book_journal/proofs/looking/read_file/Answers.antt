@@ -1,4 +1,4 @@
-use Rattle.std.proofs.Common.{◌≡◌, ◌∙◌, ℕ, List, Option, refl, sym, ap, length}
+use Rattle.std.proofs.Common.{refl, ap}
 use Rattle.book_file.specs.Walk.{WalkState}
 use Rattle.book_journal.proofs.ReadLemmas.{one_read, then_read}
 use Rattle.book_journal.proofs.LookLemmas.{outside, is_fed_from, finished}

@@ -1,4 +1,4 @@
-use Rattle.std.proofs.Common.{◌≡◌, sym, subst}
+use Rattle.std.proofs.Common.{sym, subst}
 use Rattle.column_book.specs.Entries.{BookState}
 use Rattle.book_journal.specs.Opening.{IsRead}
 use Rattle.book_journal.proofs.OpeningLemmas.{read_empty}

@@ -1,4 +1,4 @@
-use Rattle.std.proofs.Common.{◌≡◌, ◌∙◌, Ok, ap, sym, subst}
+use Rattle.std.proofs.Common.{◌∙◌, Ok, ap, sym, subst}
 use Rattle.book_file.specs.declared.found.Found.{Found}
 use Rattle.book_file.specs.File.{IsBlank}
 use Rattle.book_journal.proofs.OpeningLemmas.{begun_leaves, blank_found, refused_for}

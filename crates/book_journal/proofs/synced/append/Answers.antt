@@ -1,5 +1,5 @@
-use Rattle.std.proofs.Common.{◌≡◌, ◌+◌, ◌≤◌, List, ℕ, [], ◌∷◌, length, inl, inr, arith, Result, Ok, Err, OnOk}
-use Rattle.lg_disk.specs.Disk.{Torn, Holds}
+use Rattle.std.proofs.Common.{◌+◌, ◌≤◌, length, inl, inr, arith}
+use Rattle.lg_disk.specs.Disk.{Torn}
 use Rattle.book_journal.specs.Crashes.{Appending}
 use Rattle.book_journal.proofs.CrashLemmas.{after, widen, on_ok}
 use Rattle.book_journal.proofs.AppendLemmas.{early, late, opened, long}

@@ -1,5 +1,4 @@
-use Rattle.std.proofs.Common.{◌≡◌, ◌+◌, length, sym, subst, ap, ◌∙◌, List, ℕ}
-use Rattle.lg_disk.specs.Disk.{Torn, Holds, Only}
+use Rattle.std.proofs.Common.{length}
 use Rattle.book_journal.proofs.CrashLemmas.{wrote, kept}
 use Rattle.book_journal.proofs.synced.write_synced.Goals as goal
 

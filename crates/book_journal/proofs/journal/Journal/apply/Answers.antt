@@ -1,4 +1,4 @@
-use Rattle.std.proofs.Common.{◌≡◌, ◌∙◌, ◌+◌, ◌^◌, ◌≤◌, length, Bool, false, refl, sym, ap, arith}
+use Rattle.std.proofs.Common.{◌∙◌, refl, sym, ap, arith}
 use Rattle.column_book.specs.Entries.{BookState}
 use Rattle.book_journal.specs.Kept.{state_of}
 use Rattle.book_journal.proofs.ApplyLemmas.{does_know, does_want, puts_of, in_range, fails, stores, sound_next}
