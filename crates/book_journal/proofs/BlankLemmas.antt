@@ -16,8 +16,11 @@ blank_cut b c blank cut =
     let size : length c ≤ length b = omega (arith, ap length cut.front, length-take (length c) b) in
     elim (cases_lt 0 (length c)) [
       | inl some ↦ ⊎_elim (λ le. inl (omega (arith, le, size)))
-          (λ s. inr (omega (arith, s.0, size), λ one. s.1 (sym (get_or-take (length c) b 0 0 some) ∙ sym (ap (λ (l : List ℕ). get_or l 0 0) cut.front)
-            ∙ one))) blank
+          (λ s. inr (
+            omega (arith, s.0, size),
+            λ one. s.1 (sym (get_or-take (length c) b 0 0 some) ∙ sym (ap (λ (l : List ℕ). get_or l 0 0) cut.front)
+                ∙ one),
+          )) blank
       | inr none ↦ inl (omega (arith, none))
     ]
 
@@ -36,8 +39,12 @@ pub after_gate : (shape : Shape) (file : List ℕ) → file ≡ header shape ++ 
 unfolding header
 after_gate shape file is =
     ap (λ (l : List ℕ). 1 ∷ take 17 (drop 1 l)) is
-    ∙ ap (λ (l : List ℕ). 1 ∷ l) (take_all 17 (76 ∷ 71 ∷ 66 ∷ 49 ∷ (shape_bytes shape ++ 0 ∷ [])) (omega (arith, header_len shape, length-append
-      (shape_bytes shape) (0 ∷ []))))
+    ∙ ap (λ (l : List ℕ). 1 ∷ l) (take_all 17 (76 ∷ 71 ∷ 66 ∷ 49 ∷ (shape_bytes shape ++ 0 ∷ [])) (omega (
+      arith,
+      header_len shape,
+      length-append
+          (shape_bytes shape) (0 ∷ []),
+    )))
 
 module _ (shape : Shape) (fits : FitsShape shape) (bytes : List ℕ) (is : 1 ∷ bytes ≡ header shape ++ 0 ∷ []) where
   size : length bytes ≡ 17

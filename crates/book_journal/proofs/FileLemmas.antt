@@ -32,7 +32,7 @@ module _ (shape : Shape) (rs : List UploadData) (r : UploadData) (end : ℕ) (pl
       gate = spells.gate;
       rest = drop (end + 1) c;
       bytes = sym (take-append-drop (end + 1) c) ∙ ap (λ (l : List ℕ). l ++ drop (end + 1) c) (same ∙ with_gate) ∙ append_assoc (front shape rs)
-        (spells.gate ∷ []) (drop (end + 1) c);
+          (spells.gate ∷ []) (drop (end + 1) c);
       closed = spells.closed;
       shape_fits = spells.shape_fits;
       records_fit = spells.records_fit;
@@ -65,10 +65,17 @@ module _ (shape : Shape) (rs : List UploadData) (r : UploadData) (end : ℕ) (pl
       }
 
       without_it : (x ≡ 1 → ⊥) → Spells shape rs c
-      without_it shut = record { gate = x; rest = body r ++ 0 ∷ tail; bytes = whole; closed = shut; shape_fits = spells.shape_fits; records_fit =
-        spells.records_fit }
+      without_it shut = record {
+        gate = x;
+        rest = body r ++ 0 ∷ tail;
+        bytes = whole;
+        closed = shut;
+        shape_fits = spells.shape_fits;
+        records_fit =
+            spells.records_fit;
+      }
 
     pub before_or_after : (c : List ℕ) → Appending file end bytes c → StandsFor shape rs c ⊎ StandsFor shape (rs ++ r ∷ []) c
     before_or_after c (inl same) = inl (inr (unchanged c same.0))
     before_or_after c (inr late) = ⊎_elim (λ one. inr (inr (with_it late.0 c late.1 one))) (λ shut. inl (inr (without_it late.0 c late.1 shut)))
-      (cases_eq late.0 1)
+        (cases_eq late.0 1)

@@ -55,7 +55,7 @@ finished asked room len honest seen a b r start p long size asks has finds =
 
 pub looked_book : (asked : Option Shape) (honest : Type 0) (seen : List ℕ) (b : BookState) (end : ℕ) (r : Result Found OpenFault) → r ≡ Ok (Book b end)
     → ((r ≡ Err DiskFault → ⊥) → Reads honest seen (λ (file : List ℕ). Finds asked ROOM file r)) → Reads honest seen (λ
-      (file : List ℕ). HasFound asked file (Ok (Some b)))
+    (file : List ℕ). HasFound asked file (Ok (Some b)))
 looked_book asked honest seen b end r is finds =
     let x = finds (λ e. cc) in
     record { file = x.file; held = x.held; told = holds x.file (subst (λ (s : Result Found OpenFault). Finds asked ROOM x.file s) is x.told) }

@@ -39,7 +39,7 @@ module _ {D : Type 0} (honest : D → Type 0) (seen : D → List ℕ) (images : 
 
   -- a blank file that is left so
   pub blank_stays : (only_now : (d : D) (c : List ℕ) → honest d → since d (moment d) c → images d c) (d : D) → IsSynced honest seen images d → IsBlank
-    (seen d) → Leaves moment since (StandsFor shape []) d d
+      (seen d) → Leaves moment since (StandsFor shape []) d d
   blank_stays only_now d synced blank = record {
     later = omega arith;
     each = λ c k. inl (subst IsBlank (sym (synced.only c (only_now d c synced.told k))) blank, refl);
@@ -47,23 +47,23 @@ module _ {D : Type 0} (honest : D → Type 0) (seen : D → List ℕ) (images : 
   }
 
   module _ (reads_image : (d : D) → honest d → images d (seen d)) (counts_now : (d : D) (t : ℕ) (c : List ℕ) → honest d → t ≤ moment d → images d c
-    → since d t c) where
+      → since d t c) where
     -- a blank file was read, and then it was made the empty journal, or nearly
     pub begun_leaves : (old mid new : D) → honest old → OnlyReads honest seen images moment since old mid → (honest mid → honest new) → IsBlank
-      (seen old) → Leaves moment since (StandsFor shape []) mid new
+        (seen old) → Leaves moment since (StandsFor shape []) mid new
         → OpenLeaves honest seen images moment since shape old new
     begun_leaves old mid new told reads still blank made =
         let first = reads.leaves told in
         let told_new = still (reads.still told) in
         let all = after moment since (images old) (StandsFor shape []) (λ (c : List ℕ). images old c ⊎ StandsFor shape [] c) old mid new first made
-          (λ c a. inl a) (λ c b. inr b) in
+        (λ c a. inl a) (λ c b. inr b) in
         record {
           still = told_new;
           later = all.later;
           each = λ c k. ⊎_elim (λ a. inl a) (λ b. inr ([], inl (blank, refl), b)) (all.each c k);
           reads = λ full. absurd (full blank);
           stands_on = λ rs stands. for_list rs stands (seen new) (made.each (seen new) (counts_now new (moment mid) (seen new) told_new made.later
-            (reads_image new told_new)));
+              (reads_image new told_new)));
           settled = λ rs stands were c k. ⊎_elim (λ a. were c a) (λ b. for_list rs stands c b) (all.each c k);
         }
       where
@@ -74,10 +74,18 @@ module _ {D : Type 0} (honest : D → Type 0) (seen : D → List ℕ) (images : 
 
 pub refused_outside : (shape : Shape) (room : ℕ) (honest : Type 0) (seen : List ℕ) (f : OpenFault) → IsOutside f → Reads honest seen (λ
     (file : List ℕ). IsRefused shape room file f)
-refused_outside shape room honest seen f (inl e) = record { file = seen; held = λ h. refl; told = subst (λ (g : OpenFault). IsRefused shape room seen g)
-    (sym e) tt }
-refused_outside shape room honest seen f (inr e) = record { file = seen; held = λ h. refl; told = subst (λ (g : OpenFault). IsRefused shape room seen g)
-    (sym e) tt }
+refused_outside shape room honest seen f (inl e) = record {
+  file = seen;
+  held = λ h. refl;
+  told = subst (λ (g : OpenFault). IsRefused shape room seen g)
+      (sym e) tt;
+}
+refused_outside shape room honest seen f (inr e) = record {
+  file = seen;
+  held = λ h. refl;
+  told = subst (λ (g : OpenFault). IsRefused shape room seen g)
+      (sym e) tt;
+}
 
 abbrev refused : OpenFault → Result Found OpenFault
 refused f = Err f

@@ -57,8 +57,13 @@ rest_of fed len seen = take (len - fed) (drop fed seen ++ replicate (len - fed) 
 
 pub rest_len : (fed len : ℕ) (seen : List ℕ) → length (rest_of fed len seen) ≡ len - fed
 unfolding rest_of
-rest_len fed len seen = omega (arith, length-take (len - fed) (drop fed seen ++ replicate (len - fed) 0), length-append (drop fed seen) (replicate
-    (len - fed) 0), length-replicate {A = ℕ} (len - fed) 0)
+rest_len fed len seen = omega (
+  arith,
+  length-take (len - fed) (drop fed seen ++ replicate (len - fed) 0),
+  length-append (drop fed seen) (replicate
+      (len - fed) 0),
+  length-replicate {A = ℕ} (len - fed) 0,
+)
 
 pub whole_file : (bytes seen : List ℕ) (len : ℕ) → len ≡ length seen → bytes ≡ take (length bytes) seen → bytes ++ rest_of (length bytes) len seen ≡ seen
 unfolding rest_of
@@ -66,6 +71,6 @@ whole_file bytes seen len long front =
     let n = length bytes in
     let size : len - n ≡ length (drop n seen) = omega (arith, long, length-drop n seen) in
     ap (λ (l : List ℕ). bytes ++ l) (take-append-le (len - n) (drop n seen) (replicate (len - n) 0) (omega (arith, size)) ∙ take_all (len - n)
-      (drop n seen) (omega (arith, size)))
+    (drop n seen) (omega (arith, size)))
     ∙ ap (λ (l : List ℕ). l ++ drop n seen) front
     ∙ take-append-drop n seen

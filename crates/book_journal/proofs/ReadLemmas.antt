@@ -15,7 +15,7 @@ module _ {D : Type 0} (honest : D → Type 0) (seen : D → List ℕ) (images : 
     }
 
   pub one_read : (old new : D) → Course honest images moment since Same old new → (honest old → seen new ≡ seen old)
-    → OnlyReads honest seen images moment since old new
+      → OnlyReads honest seen images moment since old new
   one_read old new course same = record {
     still = course.still;
     was = course.was;
@@ -25,7 +25,7 @@ module _ {D : Type 0} (honest : D → Type 0) (seen : D → List ℕ) (images : 
 
   module _ (counts_now : (d : D) (t : ℕ) (c : List ℕ) → honest d → t ≤ moment d → images d c → since d t c) where
     pub then_read : (old mid new : D) → OnlyReads honest seen images moment since old mid → OnlyReads honest seen images moment since mid new
-      → OnlyReads honest seen images moment since old new
+        → OnlyReads honest seen images moment since old new
     then_read old mid new p q = record {
       still = λ h. q.still (p.still h);
       was = λ h. p.was (q.was h);
@@ -38,5 +38,5 @@ module _ {D : Type 0} (honest : D → Type 0) (seen : D → List ℕ) (images : 
     synced_still old new p s = record {
       told = p.still s.told;
       only = λ c i. s.only c (image_has honest seen images moment since counts_now (images old) old new (p.still s.told) (p.leaves s.told) c i) ∙ sym
-        (p.same s.told);
+          (p.same s.told);
     }

@@ -36,8 +36,16 @@ wider shape least most r c b = record { list = b.list; stands = b.stands; begins
 placed : (shape : Shape) (least rs : List UploadData) (r : UploadData) (c : List ℕ) → IsPrefix least rs → StandsFor shape rs c ⊎ StandsFor shape
     (rs ++ r ∷ []) c → IsBetween shape least (rs ++ r ∷ []) c
 placed shape least rs r c p (inl stands) = record { list = rs; stands = stands; begins = p; ends = (r ∷ [], refl) }
-placed shape least rs r c p (inr stands) = record { list = rs ++ r ∷ []; stands = stands; begins = prefix_push least rs r p; ends = ([], append-nil
-    (rs ++ r ∷ [])) }
+placed shape least rs r c p (inr stands) = record {
+  list = rs ++ r ∷ [];
+  stands = stands;
+  begins = prefix_push least rs r p;
+  ends = (
+    [],
+    append-nil
+        (rs ++ r ∷ []),
+  );
+}
 
 whole_list : (es : List Entry) (fault : Option Entry) → fault ≡ None → with_fault es fault ≡ es
 whole_list es fault whole = ap (with_fault es) whole
@@ -50,7 +58,7 @@ module _ {D : Type 0} (honest : D → Type 0) (seen : D → List ℕ) (images : 
     -- ---- a run begins at a journal that no call of the disk failed
 
     pub run_start : (j : JournalState D) → honest j.disk → j.fault ≡ None → IsSettled honest seen images j → IsRun honest seen images moment since
-      (start_of seen moment j) j
+        (start_of seen moment j) j
     run_start j told whole s = record {
       told = told;
       early = omega arith;
@@ -75,7 +83,7 @@ module _ {D : Type 0} (honest : D → Type 0) (seen : D → List ℕ) (images : 
     stays P d told p = record { later = omega arith; each = λ c k. p c (only_now d c told k); before = λ t c le k. inl k }
 
     pub does_nothing : (pass : ℕ) (u : UploadData) (end : ℕ) (v old new : JournalState D) (r : Result Applied ApplyFault)
-      → IsSound honest seen images end v → v ≡ old → new ≡ old
+        → IsSound honest seen images end v → v ≡ old → new ≡ old
         → Answers pass u old new r → ((c : List ℕ) → IsBefore old c → IsDuring pass u old r c) → ((c : List ℕ) → IsBefore old c → IsThen pass u old r c)
         → Applies honest seen images moment since pass u old new r
     does_nothing pass u end v old new r sound is same answers during then = record {
@@ -96,7 +104,7 @@ module _ {D : Type 0} (honest : D → Type 0) (seen : D → List ℕ) (images : 
   -- ---- a call that stores a record
 
   module _ (counts_now : (d : D) (t : ℕ) (c : List ℕ) → honest d → t ≤ moment d → images d c → since d t c) (pass : ℕ) (u : UploadData)
-    (v : JournalState D) (disk : D) (whole : v.fault ≡ None) where
+      (v : JournalState D) (disk : D) (whole : v.fault ≡ None) where
     abbrev e : Entry
     e = stored_entry pass v.entries u
 
@@ -104,7 +112,7 @@ module _ {D : Type 0} (honest : D → Type 0) (seen : D → List ℕ) (images : 
     After c = IsBefore v c ⊎ IsAfter pass u v c
 
     module _ (start : Start D) (run : IsRun honest seen images moment since start v) (told : honest disk)
-      (leaves : Leaves moment since After v.disk disk) where
+        (leaves : Leaves moment since After v.disk disk) where
       abbrev Between : List ℕ → Type 0
       Between c = IsBetween v.shape (records start.entries) (records v.entries ++ e.stored ∷ []) c
 
@@ -126,7 +134,7 @@ module _ {D : Type 0} (honest : D → Type 0) (seen : D → List ℕ) (images : 
           (leaves.before t c (omega (arith, le, run.early)) k)
 
       run_with : (j : JournalState D) → j.shape ≡ v.shape → with_fault j.entries j.fault ≡ v.entries ++ e ∷ [] → (c : List ℕ) → Between c
-        → IsBetween j.shape (records start.entries) (records (with_fault j.entries j.fault)) c
+          → IsBetween j.shape (records start.entries) (records (with_fault j.entries j.fault)) c
       run_with j shape adds c b =
           subst (λ (s : Shape). IsBetween s (records start.entries) (records (with_fault j.entries j.fault)) c) (sym shape)
           (subst (λ (l : List UploadData). IsBetween v.shape (records start.entries) l c) (sym (ap records adds ∙ records_push v.entries e)) b)
@@ -141,8 +149,14 @@ module _ {D : Type 0} (honest : D → Type 0) (seen : D → List ℕ) (images : 
             each = λ c k. next c (each_file c k);
             before = λ t c le k. ⊎_elim (λ older. inl older) (λ b. inr (next c b)) (earlier t c le k);
             now = λ c image. inl (after c image);
-            reads = λ none same. absurd (omega (arith, ap length same, ap length run.begins.1, length-append v.entries
-              (e ∷ []), length-append start.entries run.begins.0));
+            reads = λ none same. absurd (omega (
+              arith,
+              ap length same,
+              ap length run.begins.1,
+              length-append v.entries
+                  (e ∷ []),
+              length-append start.entries run.begins.0,
+            ));
           }
 
       pub run_broken : IsRun honest seen images moment since start (broken pass u disk v)
@@ -159,7 +173,7 @@ module _ {D : Type 0} (honest : D → Type 0) (seen : D → List ℕ) (images : 
           }
 
     module _ (end : ℕ) (put : List ℕ) (sound : IsSound honest seen images end v) (well : AreRecords (dims_of v.shape)
-      (records v.entries ++ e.stored ∷ [])) (puts : put ≡ body e.stored ++ 0 ∷ []) where
+        (records v.entries ++ e.stored ∷ [])) (puts : put ≡ body e.stored ++ 0 ∷ []) where
       spelled : honest v.disk → Spells v.shape (records v.entries) (seen v.disk)
       spelled told = (sound.settled whole told).spells
 
@@ -167,13 +181,13 @@ module _ {D : Type 0} (honest : D → Type 0) (seen : D → List ℕ) (images : 
       within told = inside v.shape (records v.entries) e.stored end sound.placed.place well (seen v.disk) (spelled told)
 
       module _ (crash : IsSynced honest seen images v.disk → end < length (seen v.disk) → Leaves moment since (Appending
-        (seen v.disk) end put) v.disk disk) where
+          (seen v.disk) end put) v.disk disk) where
         pub leaves_either : honest v.disk → Leaves moment since After v.disk disk
         leaves_either told =
             widen moment since (Appending (seen v.disk) end put) After v.disk disk (crash (sound.settled whole told).synced (within told))
             (λ c p. ⊎_elim (λ a. inl a) (λ b. inr (subst (λ (l : List UploadData). StandsFor v.shape l c) (sym (records_push v.entries e)) b))
             (before_or_after v.shape (records v.entries) e.stored end sound.placed.place well (seen v.disk) (spelled told) c (subst (λ
-              (l : List ℕ). Appending (seen v.disk) end l c) puts p)))
+            (l : List ℕ). Appending (seen v.disk) end l c) puts p)))
 
         module _ (still : honest v.disk → honest disk) (was : honest disk → honest v.disk) (new_is : HasNew pass u v) where
           pub does_fail : Applies honest seen images moment since pass u v (broken pass u disk v) (Err DiskFault)
@@ -189,18 +203,18 @@ module _ {D : Type 0} (honest : D → Type 0) (seen : D → List ℕ) (images : 
 
           module _ (synced : IsSynced honest seen images v.disk → IsSynced honest seen images disk)
               (writes : IsSynced honest seen images v.disk → end < length (seen v.disk) → seen disk ≡ take end (seen v.disk) ++ 1 ∷ put ++ drop
-                (end + 1 + length put) (seen v.disk)) where
+              (end + 1 + length put) (seen v.disk)) where
             spells_after : honest v.disk → Spells v.shape (records (v.entries ++ e ∷ [])) (seen disk)
             spells_after told =
                 subst (λ (l : List UploadData). Spells v.shape l (seen disk)) (sym (records_push v.entries e))
                 (with_it v.shape (records v.entries) e.stored end sound.placed.place well (seen v.disk) (spelled told) 1 (seen disk)
                 (writes (sound.settled whole told).synced (within told) ∙ ap (λ (l : List ℕ). take end (seen v.disk) ++ 1 ∷ l ++ drop (end + 1 + length l)
-                  (seen v.disk)) puts) refl)
+                (seen v.disk)) puts) refl)
 
             after_now : honest v.disk → (c : List ℕ) → images disk c → IsAfter pass u v c
             after_now told c image =
                 inr (subst (λ (l : List ℕ). Spells v.shape (records (v.entries ++ e ∷ [])) l) (sym ((synced
-                  (sound.settled whole told).synced).only c image)) (spells_after told))
+                (sound.settled whole told).synced).only c image)) (spells_after told))
 
             pub does_store : (p : ℕ) → p ≡ length v.entries → Applies honest seen images moment since pass u v (with_entry pass u disk v) (Ok (Stored p))
             does_store p place = record {
@@ -211,7 +225,7 @@ module _ {D : Type 0} (honest : D → Type 0) (seen : D → List ℕ) (images : 
             }
 
             pub sound_stored : (len : ℕ) → len ≡ length put → count_of (records v.entries ++ e.stored ∷ []) ≤ v.room → IsSound honest seen images
-              (end + len) (with_entry pass u disk v)
+                (end + len) (with_entry pass u disk v)
             sound_stored len size few = record {
               placed = record {
                 shape_fits = sound.placed.shape_fits;

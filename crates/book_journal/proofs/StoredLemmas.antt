@@ -93,7 +93,17 @@ module _ (shape : Shape) (room : ℕ) (es : List Entry) (pass : ℕ) (u : Upload
     }
 
     pub in_range : (end : ℕ) (put : List ℕ) → end ≡ length (front shape (records es)) → room ≤ ROOM → FitsShape shape → put ≡ body r ++ 0 ∷ []
-      → end + 1 + length put ≤ 2 ^ 40
+        → end + 1 + length put ≤ 2 ^ 40
     in_range end put place small shape_fits puts =
-        omega (arith, place, small, few, lengths shape (records es ++ r ∷ []) shape_fits next, ap length (front_push shape (records es) r), length-append
-          (front shape (records es)) (1 ∷ body r), ap length puts, length-append (body r) (0 ∷ []))
+        omega (
+          arith,
+          place,
+          small,
+          few,
+          lengths shape (records es ++ r ∷ []) shape_fits next,
+          ap length (front_push shape (records es) r),
+          length-append
+              (front shape (records es)) (1 ∷ body r),
+          ap length puts,
+          length-append (body r) (0 ∷ []),
+        )

@@ -58,6 +58,15 @@ fn records_in(alloc: Global, file: Vec<u8>) -> Result<u32, Fail> {
     }
 }
 
+// The pass that stored the first record.
+fn first_pass(book: &Book) -> Option<u32> {
+    if book.records() > 0 {
+        Some(book.head(0).pass)
+    } else {
+        None
+    }
+}
+
 #[test]
 fn an_upload_is_stored_and_known(rt: HostRuntime) -> Result<(), Fail> {
     let alloc = rt.alloc();
@@ -68,14 +77,15 @@ fn an_upload_is_stored_and_known(rt: HostRuntime) -> Result<(), Fail> {
     assert_eq!(rt; journal.apply(3, &one), Ok(Applied::Stored(0)));
     assert_eq!(rt; journal.apply(4, &one), Ok(Applied::Known));
     assert!(rt; !journal.is_broken());
-    assert_eq!(rt; journal.book().head(0).pass, 3);
+    assert_eq!(rt; first_pass(journal.book()), Some(3));
     let (book, mut disk) = journal.close();
     assert_eq!(rt; book.count(), 1);
     assert_eq!(rt; disk.bytes(), FILE.as_slice());
     let Ok(Some(seen)) = look(alloc, &mut disk, None) else {
         return Err("not seen".into());
     };
-    assert_eq!(rt; (seen.count(), seen.head(0).pass), (1, 0));
+    assert_eq!(rt; seen.count(), 1);
+    assert_eq!(rt; first_pass(&seen), Some(0));
     Ok(())
 }
 
@@ -113,7 +123,7 @@ fn refused_files_are_only_read(rt: HostRuntime) -> Result<(), Fail> {
     let alloc = rt.alloc();
     let two = two_records();
     let mut cut_off = [0; 45];
-    cut_off.copy_from_slice(&two[..45]);
+    cut_off.copy_from_slice(&FILE[..45]);
     let mut twice = two;
     twice[58] = 0;
     let mut foreign = [0; 19];
