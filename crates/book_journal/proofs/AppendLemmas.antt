@@ -22,7 +22,8 @@ module _ (file : List ℕ) (gate : ℕ) (bytes : List ℕ) (inside : gate < leng
   split = append_assoc (take (gate + 1) file) bytes rest
 
   take_staged : take gate staged ≡ take gate file
-  take_staged = ap (λ (l : List ℕ). take gate l) split ∙ take-append-le gate (take (gate + 1) file) (bytes ++ rest) (omega (arith, front_size)) ∙ take-take gate (gate + 1) file (omega arith)
+  take_staged = ap (λ (l : List ℕ). take gate l) split ∙ take-append-le gate (take (gate + 1) file) (bytes ++ rest) (omega (arith, front_size))
+      ∙ take-take gate (gate + 1) file (omega arith)
 
   drop_staged : drop (gate + 1) staged ≡ bytes ++ rest
   drop_staged = ap (λ (l : List ℕ). drop (gate + 1) l) split ∙ drop_at (take (gate + 1) file) (bytes ++ rest) (gate + 1) front_size
@@ -50,10 +51,28 @@ module _ (file : List ℕ) (gate : ℕ) (bytes : List ℕ) (inside : gate < leng
       (one.0, t.parts ∙ ap (λ (l : List ℕ). take gate staged ++ l ++ drop (gate + 1) staged) one.1 ∙ regroup one.0)
     where
       size : (t : Torn gate 1 staged c) → length t.middle ≡ 1
-      size t = omega (arith, ap length t.parts, length-append (take gate staged ++ t.middle) (drop (gate + 1) staged), length-append (take gate staged) t.middle, length-take gate staged, length-drop (gate + 1) staged, length_staged, t.no_shorter, t.no_longer)
+      size t = omega (
+        arith,
+        ap length t.parts,
+        length-append (take gate staged ++ t.middle) (drop (gate + 1) staged),
+        length-append
+            (take gate staged) t.middle,
+        length-take gate staged,
+        length-drop (gate + 1) staged,
+        length_staged,
+        t.no_shorter,
+        t.no_longer,
+      )
 
   pub opened : (f new : List ℕ) → Holds file (gate + 1) bytes f → Holds f gate (1 ∷ []) new → new ≡ take gate file ++ 1 ∷ bytes ++ rest
   opened f new first second = subst (λ (l : List ℕ). Holds l gate (1 ∷ []) new) first second ∙ regroup 1
 
 pub long : (file : List ℕ) (gate : ℕ) (bytes f : List ℕ) → gate < length file → Holds file (gate + 1) bytes f → gate ≤ length f
-long file gate bytes f inside holds = omega (arith, ap length holds, length-append (take (gate + 1) file ++ bytes) (drop (gate + 1 + length bytes) file), length-append (take (gate + 1) file) bytes, length-take (gate + 1) file)
+long file gate bytes f inside holds = omega (
+  arith,
+  ap length holds,
+  length-append (take (gate + 1) file ++ bytes) (drop
+      (gate + 1 + length bytes) file),
+  length-append (take (gate + 1) file) bytes,
+  length-take (gate + 1) file,
+)

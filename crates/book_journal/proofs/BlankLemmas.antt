@@ -1,5 +1,5 @@
 -- What a crash leaves while a blank file is made the empty journal.
-use Rattle.std.proofs.Common.{◌≡◌, ◌⊎◌, inl, inr, ⊎_elim, ℕ, ◌+◌, ◌<◌, ◌≤◌, List, [], ◌∷◌, ◌++◌, length, get_or, take, drop, refl, sym, ◌∙◌, ap, subst, arith, length-take, length-append}
+use Rattle.std.proofs.Common.{◌≡◌, inl, inr, ⊎_elim, ℕ, ◌+◌, ◌≤◌, List, [], ◌∷◌, ◌++◌, length, get_or, take, drop, refl, sym, ◌∙◌, ap, subst, arith, length-take, length-append}
 use Rattle.std.specs.List.{IsDistinct}
 use Rattle.std.proofs.lemmas.Bool.{cases_eq, cases_lt}
 use Rattle.std.proofs.lemmas.List.{append-nil, get_or-take, take_all}
@@ -7,7 +7,6 @@ use Rattle.lg_disk.specs.Disk.{Holds, Shorter, Torn}
 use Rattle.lg_model.specs.Columns.{dims_of}
 use Rattle.lg_model.specs.Placing.{Shape}
 use Rattle.sketchlet_wire.specs.ShapeFields.{FitsShape, shape_bytes}
-use Rattle.sketchlet_wire.specs.Uploads.{UploadData}
 use Rattle.book_file.specs.File.{header, AreRecords, IsBlank, Spells, StandsFor}
 use Rattle.book_file.proofs.Heads.{header_len}
 use Rattle.book_journal.specs.Crashes.{Appending}
@@ -17,7 +16,11 @@ blank_cut b c blank cut =
     let size : length c ≤ length b = omega (arith, ap length cut.front, length-take (length c) b) in
     elim (cases_lt 0 (length c)) [
       | inl some ↦ ⊎_elim (λ le. inl (omega (arith, le, size)))
-        (λ s. inr (omega (arith, s.0, size), λ one. s.1 (sym (get_or-take (length c) b 0 0 some) ∙ sym (ap (λ (l : List ℕ). get_or l 0 0) cut.front) ∙ one))) blank
+          (λ s. inr (
+            omega (arith, s.0, size),
+            λ one. s.1 (sym (get_or-take (length c) b 0 0 some) ∙ sym (ap (λ (l : List ℕ). get_or l 0 0) cut.front)
+                ∙ one),
+          )) blank
       | inr none ↦ inl (omega (arith, none))
     ]
 
@@ -36,7 +39,12 @@ pub after_gate : (shape : Shape) (file : List ℕ) → file ≡ header shape ++ 
 unfolding header
 after_gate shape file is =
     ap (λ (l : List ℕ). 1 ∷ take 17 (drop 1 l)) is
-    ∙ ap (λ (l : List ℕ). 1 ∷ l) (take_all 17 (76 ∷ 71 ∷ 66 ∷ 49 ∷ (shape_bytes shape ++ 0 ∷ [])) (omega (arith, header_len shape, length-append (shape_bytes shape) (0 ∷ []))))
+    ∙ ap (λ (l : List ℕ). 1 ∷ l) (take_all 17 (76 ∷ 71 ∷ 66 ∷ 49 ∷ (shape_bytes shape ++ 0 ∷ [])) (omega (
+      arith,
+      header_len shape,
+      length-append
+          (shape_bytes shape) (0 ∷ []),
+    )))
 
 module _ (shape : Shape) (fits : FitsShape shape) (bytes : List ℕ) (is : 1 ∷ bytes ≡ header shape ++ 0 ∷ []) where
   size : length bytes ≡ 17

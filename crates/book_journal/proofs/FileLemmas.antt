@@ -1,5 +1,5 @@
 -- What the files stand for that an append may leave.
-use Rattle.std.proofs.Common.{◌≡◌, ◌⊎◌, inl, inr, ⊎_elim, ℕ, ◌+◌, ◌<◌, ◌≤◌, List, [], ◌∷◌, ◌++◌, length, take, drop, refl, sym, ◌∙◌, ap, arith, append_assoc, length-append, take-append-drop}
+use Rattle.std.proofs.Common.{◌≡◌, ◌⊎◌, inl, inr, ⊎_elim, ℕ, ◌+◌, ◌<◌, List, [], ◌∷◌, ◌++◌, length, take, drop, sym, ◌∙◌, ap, arith, append_assoc, length-append, take-append-drop}
 use Rattle.std.proofs.lemmas.List.{take_at}
 use Rattle.std.proofs.lemmas.Bool.{cases_eq}
 use Rattle.lg_model.specs.Columns.{dims_of}
@@ -9,7 +9,8 @@ use Rattle.book_file.specs.File.{body, front, AreRecords, Spells, StandsFor}
 use Rattle.book_file.proofs.Stepping.{front_push}
 use Rattle.book_journal.specs.Crashes.{Appending}
 
-module _ (shape : Shape) (rs : List UploadData) (r : UploadData) (end : ℕ) (place : end ≡ length (front shape rs)) (well : AreRecords (dims_of shape) (rs ++ r ∷ [])) where
+module _ (shape : Shape) (rs : List UploadData) (r : UploadData) (end : ℕ) (place : end ≡ length (front shape rs)) (well : AreRecords (dims_of shape)
+    (rs ++ r ∷ [])) where
   abbrev bytes : List ℕ
   bytes = body r ++ 0 ∷ []
 
@@ -30,7 +31,8 @@ module _ (shape : Shape) (rs : List UploadData) (r : UploadData) (end : ℕ) (pl
     unchanged c same = record {
       gate = spells.gate;
       rest = drop (end + 1) c;
-      bytes = sym (take-append-drop (end + 1) c) ∙ ap (λ (l : List ℕ). l ++ drop (end + 1) c) (same ∙ with_gate) ∙ append_assoc (front shape rs) (spells.gate ∷ []) (drop (end + 1) c);
+      bytes = sym (take-append-drop (end + 1) c) ∙ ap (λ (l : List ℕ). l ++ drop (end + 1) c) (same ∙ with_gate) ∙ append_assoc (front shape rs)
+          (spells.gate ∷ []) (drop (end + 1) c);
       closed = spells.closed;
       shape_fits = spells.shape_fits;
       records_fit = spells.records_fit;
@@ -63,8 +65,17 @@ module _ (shape : Shape) (rs : List UploadData) (r : UploadData) (end : ℕ) (pl
       }
 
       without_it : (x ≡ 1 → ⊥) → Spells shape rs c
-      without_it shut = record { gate = x; rest = body r ++ 0 ∷ tail; bytes = whole; closed = shut; shape_fits = spells.shape_fits; records_fit = spells.records_fit }
+      without_it shut = record {
+        gate = x;
+        rest = body r ++ 0 ∷ tail;
+        bytes = whole;
+        closed = shut;
+        shape_fits = spells.shape_fits;
+        records_fit =
+            spells.records_fit;
+      }
 
     pub before_or_after : (c : List ℕ) → Appending file end bytes c → StandsFor shape rs c ⊎ StandsFor shape (rs ++ r ∷ []) c
     before_or_after c (inl same) = inl (inr (unchanged c same.0))
-    before_or_after c (inr late) = ⊎_elim (λ one. inr (inr (with_it late.0 c late.1 one))) (λ shut. inl (inr (without_it late.0 c late.1 shut))) (cases_eq late.0 1)
+    before_or_after c (inr late) = ⊎_elim (λ one. inr (inr (with_it late.0 c late.1 one))) (λ shut. inl (inr (without_it late.0 c late.1 shut)))
+        (cases_eq late.0 1)

@@ -5,3 +5,7 @@ mod PieceLemmas
 mod LookLemmas
 mod FileLemmas
 mod BlankLemmas
+mod StoredLemmas
+mod RunLemmas
+mod OpeningLemmas
+mod ApplyLemmas

@@ -1,14 +1,14 @@
 -- What was read of a file, and what is answered of it.
-use Rattle.std.proofs.Common.{◌≡◌, ◌⊎◌, inl, inr, ℕ, ◌+◌, ◌≤◌, List, [], ◌++◌, length, take, Option, None, Some, Result, Ok, Err, refl, sym, ◌∙◌, ap, subst, arith, length-append}
+use Rattle.std.proofs.Common.{◌≡◌, ◌⊎◌, inl, inr, ℕ, ◌≤◌, List, [], ◌++◌, length, take, Option, Some, Result, Ok, Err, refl, sym, ◌∙◌, ap, subst, arith, length-append}
 use Rattle.lg_model.specs.Placing.{Shape}
 use Rattle.column_book.specs.declared.book.TheConstants.{ROOM}
 use Rattle.column_book.specs.Entries.{BookState}
 use Rattle.book_file.specs.declared.found.OpenFault.{OpenFault}
 use Rattle.book_file.specs.declared.found.OpenFault.TheVariants.{DiskFault, NotAJournal, WrongShape, Damaged, Full, Memory}
 use Rattle.book_file.specs.declared.found.Found.{Found}
-use Rattle.book_file.specs.declared.found.Found.TheVariants.{Blank, Book}
+use Rattle.book_file.specs.declared.found.Found.TheVariants.{Book}
 use Rattle.book_file.specs.Found.{Finds, Holds}
-use Rattle.book_file.specs.Walk.{WalkState, HasRead, Fed}
+use Rattle.book_file.specs.Walk.{WalkState, HasRead}
 use Rattle.book_file.proofs.Law.{not_blank}
 use Rattle.book_journal.specs.Looking.{Reads, IsFed, HasFound, HoldsBook}
 use Rattle.book_journal.proofs.PieceLemmas.{rest_of, rest_len, whole_file}
@@ -50,11 +50,12 @@ finished asked room len honest seen a b r start p long size asks has finds =
       file = file;
       held = λ h. whole_file p.bytes seen len (size h) (p.held h);
       told = subst (λ (k : ℕ). Finds asked k file r) (f.room ∙ has)
-        (subst (λ (x : Option Shape). Finds x b.room file r) (f.asked ∙ asks) (finds p.bytes (rest_of n len seen) read total));
+          (subst (λ (x : Option Shape). Finds x b.room file r) (f.asked ∙ asks) (finds p.bytes (rest_of n len seen) read total));
     }
 
 pub looked_book : (asked : Option Shape) (honest : Type 0) (seen : List ℕ) (b : BookState) (end : ℕ) (r : Result Found OpenFault) → r ≡ Ok (Book b end)
-    → ((r ≡ Err DiskFault → ⊥) → Reads honest seen (λ (file : List ℕ). Finds asked ROOM file r)) → Reads honest seen (λ (file : List ℕ). HasFound asked file (Ok (Some b)))
+    → ((r ≡ Err DiskFault → ⊥) → Reads honest seen (λ (file : List ℕ). Finds asked ROOM file r)) → Reads honest seen (λ
+    (file : List ℕ). HasFound asked file (Ok (Some b)))
 looked_book asked honest seen b end r is finds =
     let x = finds (λ e. cc) in
     record { file = x.file; held = x.held; told = holds x.file (subst (λ (s : Result Found OpenFault). Finds asked ROOM x.file s) is x.told) }

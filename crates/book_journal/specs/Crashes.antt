@@ -16,15 +16,15 @@ pub record Leaves {D : Type 0} (moment : D → ℕ) (since : D → ℕ → List 
   pub each : (c : List ℕ) → since new (moment old) c → P c
   pub before : (t : ℕ) (c : List ℕ) → t ≤ moment old → since new t c → since old t c ⊎ P c
 
--- While bytes are written after a closed gate, and then the gate is opened: all up to the gate is as it was and the file
--- is no longer than it will be, or all but the gate is as it will be.
+-- While bytes are written after a closed gate, and then the gate is opened: all up to the gate is as it was, and the
+-- file is no longer than it will be; or all but the gate is as it will be.
 abbrev pub Appending : List ℕ → ℕ → List ℕ → List ℕ → Type 0
 Appending file gate bytes c =
     ((take (gate + 1) c ≡ take (gate + 1) file) × (length c ≤ max (length file) (gate + 1 + length bytes)))
     ⊎ ((x : ℕ) × (c ≡ take gate file ++ x ∷ bytes ++ drop (gate + 1 + length bytes) file))
 
--- From the one disk to the other, calls only read: a read gives the same bytes, and a crash at any moment leaves what it
--- might have left at the start.
+-- From the one disk to the other, calls only read: a read gives the same bytes, and a crash at any moment leaves what
+-- it might have left at the start.
 pub record OnlyReads {D : Type 0} (honest : D → Type 0) (seen : D → List ℕ) (images : D → List ℕ → Type 0)
     (moment : D → ℕ) (since : D → ℕ → List ℕ → Type 0) (old new : D) : Type 0 where
   pub still : honest old → honest new

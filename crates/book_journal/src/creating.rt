@@ -12,8 +12,8 @@ use lg_disk::Disk;
 use lg_model::Shape;
 
 // Makes a blank file the empty journal of a shape, in eight calls of the disk. The file is cut to nothing and gets a
-// closed gate; then the rest stands after that gate before it is opened. A crash at any moment leaves a blank file or the
-// empty journal.
+// closed gate; then the rest is written after that gate, and it is opened. A crash at any moment leaves a blank file or
+// the empty journal.
 pub(crate) fn create<D: Disk>(disk: &mut D, shape: &Shape) -> Result<(), Failed>
     ensures still { D.honest disk.old → D.honest disk.new }
     ensures was { D.honest disk.new → D.honest disk.old }
@@ -22,7 +22,7 @@ pub(crate) fn create<D: Disk>(disk: &mut D, shape: &Shape) -> Result<(), Failed>
     ensures synced { IsSynced D.honest D.seen D.images disk.old →
         OnOk result (IsSynced D.honest D.seen D.images disk.new) }
     ensures written { IsSynced D.honest D.seen D.images disk.old → OnOk result (Spells shape.now [] (D.seen disk.new)) }
-    ensures fits { OnOk result (FitsShape shape.now) }
+    ensures fits { FitsShape shape.now }
     ensures cause { HasCause (D.faults disk.old) (D.faults disk.new) result }
 {
     let file = empty_file(shape);

@@ -85,8 +85,13 @@ pub(crate) fn read_file<D: Disk>(
     walk.finish()
 }
 
-/// The book of a file, which is only read. None exactly where the file is blank. Where a shape is asked for, the file
-/// has to have it.
+/// The book of a file, which is only read, in pieces of at most 4,096 bytes (docs/FORMATS.md, The book file). It has
+/// room for `ROOM` columns, and entries of pass 0. None exactly where the file is blank. Where a shape is asked for,
+/// the file has to have it.
+///
+/// `NotAJournal`, `WrongShape`, `Damaged` and `Full` are the first fault of the file. `DiskFault` comes only where the
+/// disk's count of faults rose, or stands at its last value. Of a disk that isn't honest, bytes that it does not give
+/// are taken as 00.
 pub fn look<D: Disk>(
     alloc: Global,
     disk: &mut D,

@@ -51,7 +51,7 @@ pub(crate) fn append<D: Disk>(disk: &mut D, gate: u64, bytes: &[u8]) -> Result<(
         OnOk result (IsSynced D.honest D.seen D.images disk.new) }
     ensures written { IsSynced D.honest D.seen D.images disk.old → gate < length (D.seen disk.old) →
         OnOk result (D.seen disk.new
-            ≡ take gate (D.seen disk.old) ++ 1 ∷ bytes.now ++ drop (gate + 1 + length bytes.now) (D.seen disk.old)) }
+        ≡ take gate (D.seen disk.old) ++ 1 ∷ bytes.now ++ drop (gate + 1 + length bytes.now) (D.seen disk.old)) }
     ensures cause { HasCause (D.faults disk.old) (D.faults disk.new) result }
 {
     write_synced(disk, gate + 1, bytes)?;

@@ -12,7 +12,7 @@ invariant-loop-at g l = record {
   size : g.D.Disk.honest l.fn.disk → l.len ≡ length (g.D.Disk.seen l.fn.disk);
   reads : OnlyReads g.D.Disk.honest g.D.Disk.seen g.D.Disk.images g.D.Disk.moment g.D.Disk.since l.fn.disk l.disk;
   fed : IsFed (g.D.Disk.honest l.fn.disk) (g.D.Disk.seen l.fn.disk) l.fn.walk l.walk;
-  faults : g.D.Disk.faults l.fn.disk ≤ g.D.Disk.faults l.disk
+  faults : g.D.Disk.faults l.fn.disk ≤ g.D.Disk.faults l.disk;
 }
 
 abbrev pub decreases-loop-at : goal.decreases-loop-at
