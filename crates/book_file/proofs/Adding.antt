@@ -1,6 +1,6 @@
 -- Records that are added to a book that has none of their keys.
-use Rattle.std.proofs.Common.{◌≡◌, ℕ, ◌+◌, ◌*◌, ◌<◌, ◌≤◌, Bool, true, false, cond, List, [], ◌∷◌, ◌++◌, length, map, Option, None, Some, Result, Ok, Err, refl, sym, ◌∙◌, ap, subst, arith}
-use Rattle.std.specs.Prelude.{filter, is_none, nat_lt, IsOkAnd, if◌then◌else◌}
+use Rattle.std.proofs.Common.{◌≡◌, ℕ, ◌+◌, ◌<◌, ◌≤◌, Bool, true, false, List, [], ◌∷◌, length, map, Option, None, Some, Result, Ok, refl, sym, ◌∙◌, ap, subst, arith}
+use Rattle.std.specs.Prelude.{is_none, nat_lt, IsOkAnd, if◌then◌else◌}
 use Rattle.std.specs.List.{AllByRecursion}
 use Rattle.std.proofs.lemmas.Bool.{le-ltb}
 use Rattle.lg_model.specs.declared.column.Dims.{Dims}
@@ -11,7 +11,7 @@ use Rattle.sketchlet_wire.specs.Uploads.{UploadData}
 use Rattle.column_book.specs.declared.fault.BookFault.{BookFault}
 use Rattle.column_book.specs.declared.fault.BookFault.TheVariants.{Full}
 use Rattle.column_book.specs.Entries.{columns_in, content_in}
-use Rattle.column_book.specs.Applying.{is_new, new_columns, misfit, differs, conflict, first_fault, full, or_fault, decide, mask_of, masked, checked, same_dims, IsAddable}
+use Rattle.column_book.specs.Applying.{is_new, new_columns, misfit, differs, conflict, first_fault, full, or_fault, decide, mask_of, masked, same_dims, IsAddable}
 use Rattle.column_book.proofs.Faults.{same_dims-Decides}
 use Rattle.book_file.proofs.Apart.{pass_all, all_map}
 

@@ -1,12 +1,9 @@
 -- A walk that was fed a whole list has ended.
-use Rattle.std.proofs.Common.{◌≡◌, ℕ, ◌+◌, ◌<◌, ◌≤◌, Bool, true, false, List, [], ◌∷◌, ◌++◌, length, map, Option, Result, Ok, Err, refl, sym, ◌∙◌, ap, arith, length-append}
+use Rattle.std.proofs.Common.{◌≡◌, ℕ, ◌≤◌, false, List, ◌∷◌, length, Option, Ok, Err, refl, ap, arith, length-append}
 use Rattle.std.specs.List.{flat_map}
 use Rattle.lg_model.specs.Placing.{Shape}
 use Rattle.sketchlet_wire.specs.Uploads.{UploadData}
-use Rattle.column_book.specs.Entries.{BookState}
-use Rattle.book_file.specs.declared.found.OpenFault.{OpenFault}
-use Rattle.book_file.specs.declared.found.OpenFault.TheVariants.{Damaged, Memory}
-use Rattle.book_file.specs.declared.found.Found.{Found}
+use Rattle.book_file.specs.declared.found.OpenFault.TheVariants.{Damaged}
 use Rattle.book_file.specs.declared.found.Found.TheVariants.{Book}
 use Rattle.book_file.specs.declared.stage.Stage.{Stage}
 use Rattle.book_file.specs.declared.stage.Stage.TheVariants.{Head, Gate, Lead, Body, Ended}

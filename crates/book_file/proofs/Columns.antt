@@ -1,5 +1,5 @@
 -- Columns read from the bytes of a body.
-use Rattle.std.proofs.Common.{◌≡◌, ℕ, zero, suc, ◌+◌, ◌-◌, ◌*◌, ◌<◌, ◌≤◌, ◌^◌, List, [], ◌∷◌, ◌++◌, length, take, drop, Bool, true, false, cond, ltb, Option, None, Some, Result, Ok, Err, refl, sym, ◌∙◌, ap, subst, arith, append_assoc, length-append, take-append-drop}
+use Rattle.std.proofs.Common.{◌≡◌, ℕ, zero, suc, ◌<◌, ◌≤◌, List, [], ◌∷◌, ◌++◌, length, take, drop, true, false, cond, ltb, Option, None, Some, Ok, Err, refl, sym, ◌∙◌, ap, subst, arith, append_assoc, take-append-drop}
 use Rattle.std.specs.List.{flat_map, AllByRecursion}
 use Rattle.std.proofs.lemmas.List.{append-nil, length-take, length-drop}
 use Rattle.std.specs.Prelude.{MatchOption}
@@ -15,7 +15,7 @@ use Rattle.lg_model.specs.declared.column.Key.{Key}
 use Rattle.lg_model.specs.Columns.{Cells, Column}
 use Rattle.sketchlet_wire.specs.declared.fault.WireFault.{WireFault}
 use Rattle.sketchlet_wire.specs.declared.fault.WireFault.TheVariants.{Short, BadIndex}
-use Rattle.sketchlet_wire.specs.Spelling.{IsColumn, IsAdmitted, IsDims, FitsKey, column_key_bytes, cells_bytes, shown}
+use Rattle.sketchlet_wire.specs.Spelling.{IsAdmitted, IsDims, FitsKey, column_key_bytes, cells_bytes, shown}
 use Rattle.sketchlet_wire.specs.Reading.{key_at, cells_at, column_of_parts}
 use Rattle.sketchlet_wire.proofs.Fields.{key_again, key_takes, cells_again, cells_take}
 use Rattle.book_file.specs.File.{IsColumnOf, column_bytes}

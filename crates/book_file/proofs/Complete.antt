@@ -1,14 +1,14 @@
 -- What stands for a list that there is room for has no other answer than its book.
-use Rattle.std.proofs.Common.{◌≡◌, ◌⊎◌, inl, inr, ⊎_elim, ℕ, ◌≤◌, List, [], ◌∷◌, ◌++◌, length, map, Option, None, Some, Result, Ok, Err, refl, sym, ◌∙◌, ap, subst}
+use Rattle.std.proofs.Common.{◌≡◌, inl, inr, ℕ, ◌≤◌, List, [], ◌∷◌, length, map, Option, Ok, Err, refl, sym, ap, subst}
 use Rattle.lg_model.specs.Placing.{Shape}
 use Rattle.sketchlet_wire.specs.Uploads.{UploadData}
-use Rattle.column_book.specs.Entries.{BookState, records}
+use Rattle.column_book.specs.Entries.{records}
 use Rattle.book_file.specs.declared.found.OpenFault.{OpenFault}
 use Rattle.book_file.specs.declared.found.OpenFault.TheVariants.{DiskFault, NotAJournal, WrongShape, Damaged, Full, Memory}
 use Rattle.book_file.specs.declared.found.Found.{Found}
 use Rattle.book_file.specs.declared.found.Found.TheVariants.{Blank, Book}
 use Rattle.book_file.specs.File.{front, Spells, StandsFor}
-use Rattle.book_file.specs.Found.{Suits, Finds, Holds, read_entry, book_of, count_of}
+use Rattle.book_file.specs.Found.{Suits, Finds, read_entry, book_of, count_of}
 use Rattle.book_file.specs.Laws.{LawOfWholeFiles}
 use Rattle.book_file.proofs.OneAnswer.{one_answer}
 

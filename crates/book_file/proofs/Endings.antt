@@ -1,19 +1,19 @@
 -- What a file holds that ends where a walk goes on.
-use Rattle.std.proofs.Common.{◌≡◌, ◌⊎◌, inl, inr, ⊎_elim, ℕ, ◌+◌, ◌-◌, ◌*◌, ◌<◌, ◌≤◌, replicate, Bool, true, false, List, [], ◌∷◌, ◌++◌, length, get_or, Option, None, Some, Result, Ok, Err, refl, sym, ◌∙◌, ap, subst, arith, append_assoc, length-append}
-use Rattle.std.proofs.lemmas.List.{append-nil, get_or_append_left, nil_from_length, length-replicate}
+use Rattle.std.proofs.Common.{◌≡◌, ◌⊎◌, inl, inr, ⊎_elim, ℕ, ◌-◌, ◌<◌, replicate, true, false, List, [], ◌∷◌, ◌++◌, length, get_or, Option, Result, Err, refl, sym, ◌∙◌, ap, subst, arith, length-append}
+use Rattle.std.proofs.lemmas.List.{append-nil, nil_from_length, length-replicate}
 use Rattle.std.proofs.lemmas.Bool.{cases_Bool, both_ways}
 use Rattle.lg_model.specs.Placing.{Shape}
 use Rattle.lg_model.specs.Columns.{dims_of}
 use Rattle.sketchlet_wire.specs.Uploads.{UploadData}
 use Rattle.column_book.specs.Entries.{BookState, records}
 use Rattle.book_file.specs.declared.found.OpenFault.{OpenFault}
-use Rattle.book_file.specs.declared.found.OpenFault.TheVariants.{DiskFault, NotAJournal, WrongShape, Damaged, Full, Memory}
+use Rattle.book_file.specs.declared.found.OpenFault.TheVariants.{Damaged}
 use Rattle.book_file.specs.declared.found.Found.{Found}
 use Rattle.book_file.specs.declared.stage.Stage.{Stage}
 use Rattle.book_file.specs.declared.stage.Stage.TheVariants.{Head, Gate, Lead, Body, Ended}
-use Rattle.book_file.specs.File.{header, body, body_len, front, IsBlank}
+use Rattle.book_file.specs.File.{header, body, body_len, front}
 use Rattle.book_file.specs.Found.{HasHeader, HasNoBody, Finds}
-use Rattle.book_file.specs.Walk.{IsGoing, HasCount, Waits, Stands, needed, is_ended, WalkState, HasRead, IsWalk}
+use Rattle.book_file.specs.Walk.{IsGoing, Waits, Stands, is_ended, WalkState, HasRead, IsWalk}
 use Rattle.book_file.proofs.Bodies.{count_at, body_size}
 use Rattle.book_file.proofs.Heads.{header_len}
 use Rattle.book_file.proofs.OneAnswer.{last_fits}

@@ -1,6 +1,5 @@
 -- A walk that is fed more bytes.
-use Rattle.std.proofs.Common.{◌≡◌, ◌⊎◌, inl, inr, ⊎_elim, ℕ, suc, ◌+◌, ◌-◌, ◌*◌, ◌<◌, ◌≤◌, Bool, true, false, List, [], ◌∷◌, ◌++◌, length, get_or, take, drop, Option, None, Some, Result, Ok, Err, refl, sym, ◌∙◌, ap, subst, arith, append_assoc, length-append}
-use Rattle.std.specs.List.{flat_map, AllByRecursion}
+use Rattle.std.proofs.Common.{◌≡◌, ℕ, ◌+◌, ◌*◌, ◌<◌, ◌≤◌, Bool, true, false, List, [], ◌∷◌, ◌++◌, length, get_or, Option, Result, refl, sym, ◌∙◌, ap, subst, arith, append_assoc, length-append}
 use Rattle.std.proofs.lemmas.List.{append-nil, get_or_append_left}
 use Rattle.std.proofs.Math.Nat.{mul-le-mul_right}
 use Rattle.std.specs.Prelude.{cond}
@@ -8,14 +7,12 @@ use Rattle.std.specs.Result.{is_ok}
 use Rattle.lg_model.specs.Placing.{Shape}
 use Rattle.column_book.specs.Entries.{BookState, records}
 use Rattle.book_file.specs.declared.found.OpenFault.{OpenFault}
-use Rattle.book_file.specs.declared.found.OpenFault.TheVariants.{DiskFault, NotAJournal, WrongShape, Damaged, Full, Memory}
 use Rattle.book_file.specs.declared.found.Found.{Found}
-use Rattle.book_file.specs.declared.found.Found.TheVariants.{Blank, Book}
 use Rattle.book_file.specs.declared.stage.Stage.{Stage}
 use Rattle.book_file.specs.declared.stage.Stage.TheVariants.{Head, Gate, Lead, Body, Ended}
 use Rattle.book_file.specs.File.{body_len, front}
 use Rattle.book_file.specs.Found.{Finds}
-use Rattle.book_file.specs.Walk.{WalkState, IsGoing, Decides, HasCount, Waits, needed, is_ended, Stands, Steps, kept_after, gate_after, given_up, HasRead, IsWalk, Fed, MOST_KEPT}
+use Rattle.book_file.specs.Walk.{WalkState, HasCount, Waits, needed, is_ended, Stands, Steps, kept_after, gate_after, given_up, HasRead, IsWalk, Fed, MOST_KEPT}
 
 -- ---- one after the other
 

@@ -1,5 +1,5 @@
 -- The header of a shape.
-use Rattle.std.proofs.Common.{◌≡◌, ℕ, ◌+◌, ◌<◌, ◌≤◌, List, zero, suc, [], ◌∷◌, ◌++◌, length, get_or, drop, Result, Ok, Err, refl, sym, ◌∙◌, ap, arith, append_assoc, length-append}
+use Rattle.std.proofs.Common.{◌≡◌, ℕ, ◌<◌, ◌≤◌, List, zero, suc, [], ◌∷◌, ◌++◌, length, get_or, drop, Ok, refl, sym, ◌∙◌, ap, arith, length-append}
 use Rattle.std.specs.Int.{w32, from_be_bytes}
 use Rattle.std.proofs.lemmas.List.{append-nil, length-drop, nil_from_length}
 use Rattle.std.proofs.lemmas.Nat.{be_bytes_4}

@@ -1,15 +1,14 @@
 -- Bytes that aren't blank stand for at most one list.
-use Rattle.std.proofs.Common.{◌≡◌, ◌⊎◌, inl, inr, ⊎_elim, ℕ, ◌+◌, ◌*◌, ◌<◌, ◌≤◌, List, [], ◌∷◌, ◌++◌, length, get_or, refl, sym, ◌∙◌, ap, subst, arith, append_assoc, length-append}
+use Rattle.std.proofs.Common.{◌≡◌, inl, inr, ⊎_elim, ℕ, ◌*◌, ◌≤◌, List, [], ◌∷◌, ◌++◌, length, get_or, refl, sym, ◌∙◌, ap, subst, arith, append_assoc, length-append}
 use Rattle.std.specs.List.{flat_map, AllByRecursion}
 use Rattle.std.proofs.lemmas.List.{get_or_append_left}
 use Rattle.std.proofs.Math.Nat.{mul-le-mul_left}
 use Rattle.lg_model.specs.declared.column.Dims.{Dims}
 use Rattle.lg_model.specs.Placing.{Shape}
 use Rattle.lg_model.specs.Columns.{dims_of}
-use Rattle.sketchlet_wire.specs.ShapeFields.{FitsShape}
 use Rattle.sketchlet_wire.specs.Uploads.{UploadData}
 use Rattle.column_book.specs.Entries.{columns_in}
-use Rattle.book_file.specs.File.{IsRecord, AreRecords, IsClosed, header, body, column_len, record_bytes, front, IsBlank, Spells, StandsFor}
+use Rattle.book_file.specs.File.{IsRecord, IsClosed, header, body, column_len, record_bytes, front, IsBlank, Spells}
 use Rattle.book_file.specs.Found.{count_of}
 use Rattle.book_file.specs.Laws.{LawOfFiles, LawOfBlankFiles, LawOfLengths}
 use Rattle.book_file.proofs.Bodies.{body_size, same_body}

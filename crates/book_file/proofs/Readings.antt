@@ -1,5 +1,5 @@
 -- A record read from the bytes of a body.
-use Rattle.std.proofs.Common.{◌≡◌, ℕ, zero, suc, ◌+◌, ◌*◌, ◌<◌, ◌≤◌, ◌^◌, List, [], ◌∷◌, ◌++◌, length, get_or, drop, refl, sym, ◌∙◌, ap, subst, arith, append_assoc, length-append}
+use Rattle.std.proofs.Common.{◌≡◌, ℕ, zero, suc, ◌+◌, ◌*◌, ◌<◌, ◌≤◌, List, [], ◌∷◌, ◌++◌, length, get_or, drop, refl, sym, ◌∙◌, ap, subst, arith, length-append}
 use Rattle.std.specs.List.{flat_map, AllByRecursion, IsDistinct}
 use Rattle.std.specs.Int.{w16, w32, to_be_bytes, from_be_bytes}
 use Rattle.std.proofs.lemmas.List.{append-nil, length-drop, nil_from_length}
@@ -9,7 +9,6 @@ use Rattle.lg_model.specs.Columns.{Column}
 use Rattle.sketchlet_wire.specs.Uploads.{UploadData, IsFull, IsUpload, same_column_key}
 use Rattle.column_book.specs.Kept.{keys_of}
 use Rattle.book_file.specs.File.{IsColumnOf, IsRecord, column_bytes, body, body_len}
-use Rattle.book_file.specs.Walk.{HasCount}
 use Rattle.book_file.proofs.Apart.{not_twice}
 use Rattle.book_file.proofs.Bodies.{columns_size, same_columns}
 

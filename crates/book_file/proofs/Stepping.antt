@@ -1,28 +1,25 @@
 -- The steps of a walk.
-use Rattle.std.proofs.Common.{◌≡◌, ◌⊎◌, inl, inr, ℕ, ◌+◌, ◌*◌, ◌<◌, ◌≤◌, Bool, true, false, not, List, [], ◌∷◌, ◌++◌, length, get_or, map, Option, None, Some, Result, Ok, Err, ⊎_elim, refl, sym, ◌∙◌, ap, subst, arith, append_assoc, length-append}
-use Rattle.std.specs.List.{flat_map, list_any, AllByRecursion, IsDistinct}
+use Rattle.std.proofs.Common.{◌≡◌, inr, ℕ, ◌+◌, ◌<◌, ◌≤◌, true, false, not, List, [], ◌∷◌, ◌++◌, length, get_or, map, Option, None, Some, Result, Ok, Err, ⊎_elim, refl, sym, ◌∙◌, ap, subst, arith, append_assoc, length-append}
+use Rattle.std.specs.List.{flat_map, list_any, IsDistinct}
 use Rattle.std.proofs.lemmas.List.{append-nil, get_or_append_left, map-append}
 use Rattle.std.proofs.lemmas.List.Concat.{flat_map-append}
 use Rattle.lg_model.specs.declared.column.Dims.{Dims}
-use Rattle.lg_model.specs.declared.column.Key.{Key}
 use Rattle.lg_model.specs.Placing.{Shape}
 use Rattle.lg_model.specs.Columns.{Column, dims_of}
-use Rattle.lg_model.specs.Answer.{Content}
 use Rattle.sketchlet_wire.specs.ShapeFields.{FitsShape}
 use Rattle.sketchlet_wire.specs.Uploads.{UploadData, IsFull, same_column_key}
 use Rattle.column_book.specs.declared.entry.Entry.{Entry}
-use Rattle.column_book.specs.Entries.{BookState, records, columns_in, content, content_in}
+use Rattle.column_book.specs.Entries.{BookState, records, columns_in, content}
 use Rattle.column_book.specs.Kept.{keys_of}
-use Rattle.column_book.specs.Applying.{is_new, new_columns, stored_entry, entry_with, IsAddable, IsReady}
+use Rattle.column_book.specs.Applying.{is_new, stored_entry, entry_with, IsAddable}
 use Rattle.book_file.specs.declared.found.OpenFault.{OpenFault}
-use Rattle.book_file.specs.declared.found.OpenFault.TheVariants.{DiskFault, NotAJournal, WrongShape, Damaged, Full, Memory}
+use Rattle.book_file.specs.declared.found.OpenFault.TheVariants.{NotAJournal, WrongShape, Damaged, Full}
 use Rattle.book_file.specs.declared.found.Found.{Found}
 use Rattle.book_file.specs.declared.found.Found.TheVariants.{Blank, Book}
-use Rattle.book_file.specs.declared.stage.Stage.{Stage}
-use Rattle.book_file.specs.declared.stage.Stage.TheVariants.{Head, Gate, Lead, Body, Ended}
+use Rattle.book_file.specs.declared.stage.Stage.TheVariants.{Gate, Ended}
 use Rattle.book_file.specs.File.{IsColumnOf, IsRecord, AreRecords, header, body, body_len, record_bytes, front}
-use Rattle.book_file.specs.Found.{HasHeader, HasNoBody, Reaches, Suits, Finds, read_entry, book_of, count_of}
-use Rattle.book_file.specs.Walk.{IsGoing, Decides, HasCount, Stands, Steps}
+use Rattle.book_file.specs.Found.{HasNoBody, Reaches, Suits, read_entry, book_of, count_of}
+use Rattle.book_file.specs.Walk.{IsGoing, Decides, HasCount, Steps}
 use Rattle.book_file.proofs.Bytes.{same_split}
 use Rattle.book_file.proofs.Apart.{AreNew, all_map, all_push, pass_all, apart_upload, apart_join, apart_split, all_new, not_all_new}
 use Rattle.book_file.proofs.Bodies.{count_at, body_size, same_body}

@@ -1,16 +1,13 @@
 -- Worked files.
-use Rattle.std.proofs.Common.{◌≡◌, ◌⊎◌, inl, inr, ⊎_elim, ℕ, zero, suc, ◌+◌, ◌<◌, ◌≤◌, List, [], ◌∷◌, ◌++◌, length, get_or, take, None, Err, refl, sym, ◌∙◌, ap, arith, length-append}
-use Rattle.std.specs.List.{IsDistinct, AllByRecursion}
-use Rattle.lg_model.specs.declared.column.Dims.{Dims}
-use Rattle.lg_model.specs.Placing.{Shape, IsShape}
+use Rattle.std.proofs.Common.{◌≡◌, inl, inr, ⊎_elim, ℕ, zero, suc, List, [], ◌∷◌, ◌++◌, length, get_or, take, refl, sym, ◌∙◌, ap, arith, length-append}
+use Rattle.std.specs.List.{IsDistinct}
+use Rattle.lg_model.specs.Placing.{Shape}
 use Rattle.lg_model.specs.Columns.{dims_of}
-use Rattle.sketchlet_wire.specs.Spelling.{FitsBucket, FitBuckets, IsColumn, dims_bytes, column_key_bytes, bucket_bytes, cells_bytes}
+use Rattle.sketchlet_wire.specs.Spelling.{FitBuckets, dims_bytes, column_key_bytes, bucket_bytes, cells_bytes}
 use Rattle.sketchlet_wire.specs.ShapeFields.{FitsShape, shape_bytes}
-use Rattle.sketchlet_wire.specs.Uploads.{UploadData}
-use Rattle.sketchlet_wire.specs.Worked.{worked, worked_bucket}
-use Rattle.book_file.specs.declared.found.OpenFault.TheVariants.{NotAJournal, Damaged}
-use Rattle.book_file.specs.File.{IsRecord, AreRecords, header, body, front, IsBlank, Spells, StandsFor}
-use Rattle.book_file.specs.Found.{HasHeader, HasNoBody, Reaches, Finds}
+use Rattle.sketchlet_wire.specs.Worked.{worked_bucket}
+use Rattle.book_file.specs.File.{IsRecord, AreRecords, header, body, front}
+use Rattle.book_file.specs.Found.{HasHeader}
 use Rattle.book_file.specs.Worked.{worked_shape, worked_record, worked_with, zeros_of, WorkedFiles}
 use Rattle.book_file.proofs.Endings.{cut_lead}
 use Rattle.book_file.proofs.Heads.{header_one}

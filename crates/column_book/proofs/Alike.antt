@@ -11,7 +11,7 @@ use Rattle.lg_model.specs.declared.column.Bucket.{Bucket}
 use Rattle.lg_model.specs.declared.column.Dims.{Dims}
 use Rattle.lg_model.specs.declared.column.Key.{Key}
 use Rattle.lg_model.specs.Answer.{Content, found}
-use Rattle.lg_model.specs.Columns.{Cells, Column, cells_of}
+use Rattle.lg_model.specs.Columns.{Column, cells_of}
 use Rattle.sketchlet_wire.specs.Spelling.{IsColumn, filled, zeros, cells_in}
 use Rattle.column_book.specs.declared.fault.BookFault.{BookFault}
 use Rattle.column_book.specs.Applying.{same_bucket, conflict, differs, first_fault, mask_of}

@@ -17,7 +17,7 @@ use Rattle.sketchlet_wire.specs.Reading.{column_reading}
 use Rattle.sketchlet_wire.specs.Uploads.{holds_key, is_twice, no_column, IsUpload}
 use Rattle.sketchlet_wire.proofs.Columns.{is_found, is_read, spelling_length}
 use Rattle.upload_frame.specs.declared.fault.FrameFault.{FrameFault}
-use Rattle.upload_frame.specs.declared.fault.FrameFault.TheVariants.{Length, Wire, Twice}
+use Rattle.upload_frame.specs.declared.fault.FrameFault.TheVariants.{Length, Twice}
 use Rattle.upload_frame.specs.Frames.{next_column, columns_at}
 use Rattle.upload_frame.specs.Law.{LawOfColumns}
 

@@ -1,19 +1,18 @@
 -- Frames of hosts: what is read is spelled so, and what is spelled so is read.
-use Rattle.std.proofs.Common.{◌≡◌, ℕ, zero, suc, ◌+◌, ◌*◌, ◌^◌, ◌<◌, ◌≤◌, Bool, true, false, cond, ltb, leb, eqb, ◌||◌, ◌&&◌, List}
-use Rattle.std.proofs.Common.{[], ◌∷◌, ◌++◌, length, Option, Some, None, Result, Ok, Err, refl, sym, ap, subst, ◌∙◌, arith, append_assoc, ◌⊎◌, inl, inr}
+use Rattle.std.proofs.Common.{◌≡◌, ℕ, zero, suc, ◌+◌, ◌^◌, ◌<◌, ◌≤◌, Bool, true, false, cond, ltb, leb, ◌||◌, ◌&&◌, List}
+use Rattle.std.proofs.Common.{[], ◌∷◌, ◌++◌, length, Option, Some, None, Result, Ok, Err, refl, sym, ap, subst, ◌∙◌, arith, append_assoc}
 use Rattle.std.specs.List.{flat_map, AllByRecursion}
 use Rattle.std.specs.Int.{w16, w32, to_be_bytes}
-use Rattle.std.proofs.lemmas.Bool.{eqb-true, ltb-false, leb-true, le-ltb, le-leb}
+use Rattle.std.proofs.lemmas.Bool.{leb-true, le-ltb, le-leb}
 use Rattle.std.proofs.lemmas.List.{length-append, append-nil, nil_from_length}
 use Rattle.byte_fields.specs.Reading.{◌>>=◌, byte_at, number_at}
 use Rattle.byte_fields.specs.Law.{IsBytes, Takes}
 use Rattle.byte_fields.proofs.Steps.{bind_ok, guard_ok, ok_is}
 use Rattle.byte_fields.proofs.Numbers.{Takes-then, wide16, wide32, number_takes, number_again, byte_takes, byte_again}
 use Rattle.lg_model.specs.declared.limits.TheConstants.{MOST_FRAME_BYTES, MOST_UPLOAD_COLUMNS}
-use Rattle.lg_model.specs.Columns.{Column}
 use Rattle.lg_model.specs.Placing.{Shape}
 use Rattle.sketchlet_wire.specs.Spelling.{IsColumn, spelling}
-use Rattle.sketchlet_wire.specs.ShapeFields.{FitsShape, shape_bytes, shape_at}
+use Rattle.sketchlet_wire.specs.ShapeFields.{shape_bytes, shape_at}
 use Rattle.sketchlet_wire.specs.Uploads.{UploadData, IsFull, upload_of}
 use Rattle.sketchlet_wire.proofs.Shapes.{shape_takes, shape_again, shape_len}
 use Rattle.upload_frame.specs.declared.fault.FrameFault.{FrameFault}

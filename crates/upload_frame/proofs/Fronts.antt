@@ -1,8 +1,8 @@
 -- The front of a stream, of either side.
-use Rattle.std.proofs.Common.{◌≡◌, ℕ, ◌+◌, ◌<◌, ◌≤◌, List, ◌++◌, length, Option, Some, None, Result, Ok, Err, refl, sym, ap, subst, ◌∙◌, arith}
+use Rattle.std.proofs.Common.{◌≡◌, ℕ, ◌+◌, List, Some, None, Result, Ok, Err, refl, sym, ap, arith}
 use Rattle.byte_fields.specs.Reading.{◌>>=◌}
 use Rattle.upload_frame.specs.declared.fault.FrameFault.{FrameFault}
-use Rattle.upload_frame.specs.Front.{Head, HeadFront, head_at, Format, Front, front_with, front_at, IsUnfinished}
+use Rattle.upload_frame.specs.Front.{Head, HeadFront, head_at, Format, Front, front_with, front_at}
 use Rattle.upload_frame.specs.Law.{IsSettled, LawOfFronts}
 use Rattle.upload_frame.proofs.Heads.{IsSettledHead, head_more, whole_of, head_unfinished, head_none}
 

@@ -1,6 +1,6 @@
 -- The length and the kind at the front of a stream.
-use Rattle.std.proofs.Common.{◌≡◌, ℕ, zero, suc, ◌+◌, ◌-◌, ◌<◌, ◌≤◌, ◌⊎◌, Bool, true, false, not, cond, ltb, leb, eqb, ◌||◌, ◌&&◌, List}
-use Rattle.std.proofs.Common.{[], ◌∷◌, ◌++◌, length, take, drop, Option, Some, None, Result, Ok, Err, refl, sym, ap, subst, ◌∙◌, arith, inl, inr}
+use Rattle.std.proofs.Common.{◌≡◌, ℕ, zero, suc, ◌+◌, ◌-◌, ◌<◌, ◌≤◌, ◌⊎◌, Bool, true, false, not, cond, ltb, eqb, ◌||◌, List}
+use Rattle.std.proofs.Common.{◌∷◌, ◌++◌, length, take, drop, Option, Some, None, Ok, Err, refl, sym, ap, subst, ◌∙◌, arith, inl, inr}
 use Rattle.std.specs.Prelude.{slice_range, slice_index}
 use Rattle.std.specs.Int.{w16, from_be_bytes, to_be_bytes}
 use Rattle.std.proofs.lemmas.Bool.{cases_lt, lt-ltb, le-ltb, ltb-false}
@@ -9,7 +9,7 @@ use Rattle.std.proofs.Math.ListN.{get_or-append}
 use Rattle.byte_fields.proofs.Numbers.{wide16}
 use Rattle.lg_model.specs.declared.limits.TheConstants.{MOST_FRAME_BYTES}
 use Rattle.upload_frame.specs.declared.fault.FrameFault.{FrameFault}
-use Rattle.upload_frame.specs.declared.fault.FrameFault.TheVariants.{Length, Kind}
+use Rattle.upload_frame.specs.declared.fault.FrameFault.TheVariants.{Length}
 use Rattle.upload_frame.specs.Front.{Lens, fits_lens, Head, head_of_parts, HeadFront, length_of, with_lens}
 use Rattle.upload_frame.specs.Front.{is_bad_length, with_length, head_at, framed, IsLength, IsPart, IsUnfinished}
 

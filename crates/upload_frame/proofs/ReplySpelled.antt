@@ -1,11 +1,11 @@
 -- Replies: what is read is spelled so, and what is spelled so is read.
-use Rattle.std.proofs.Common.{◌≡◌, ℕ, zero, suc, ◌+◌, ◌^◌, ◌<◌, ◌≤◌, Bool, true, false, cond, ltb, leb, eqb, ◌||◌, ◌&&◌}
-use Rattle.std.proofs.Common.{List, [], ◌∷◌, ◌++◌, length, Option, Some, None, Result, Ok, Err, refl, sym, ap, subst, ◌∙◌, arith, append_assoc}
+use Rattle.std.proofs.Common.{◌≡◌, ℕ, zero, suc, ◌+◌, ◌^◌, ◌<◌, Bool, true, false, cond, ltb, eqb, ◌||◌, ◌&&◌}
+use Rattle.std.proofs.Common.{List, [], ◌∷◌, ◌++◌, length, Some, None, Result, Ok, Err, refl, sym, ap, subst, ◌∙◌, arith}
 use Rattle.std.specs.Int.{w16, w32, to_be_bytes}
-use Rattle.std.proofs.lemmas.Bool.{eqb-true, le-ltb}
-use Rattle.std.proofs.lemmas.List.{length-append, append-nil}
+use Rattle.std.proofs.lemmas.Bool.{eqb-true}
+use Rattle.std.proofs.lemmas.List.{append-nil}
 use Rattle.byte_fields.specs.Reading.{◌>>=◌, byte_at, number_at}
-use Rattle.byte_fields.specs.Law.{IsBytes, Takes}
+use Rattle.byte_fields.specs.Law.{IsBytes}
 use Rattle.byte_fields.proofs.Steps.{bind_ok, guard_ok, guarded, ok_is}
 use Rattle.byte_fields.proofs.Numbers.{Takes-then, wide16, wide32, number_takes, number_again, byte_takes, byte_again}
 use Rattle.lg_model.specs.declared.column.Key.{Key}

@@ -1,6 +1,6 @@
 -- Frames of either side and their spellings, by what holds of the fields.
-use Rattle.std.proofs.Common.{◌≡◌, ℕ, zero, suc, ◌+◌, ◌-◌, ◌^◌, ◌<◌, ◌≤◌, true, List, [], ◌∷◌, ◌++◌, length, take}
-use Rattle.std.proofs.Common.{drop, get_or, Option, Some, None, Result, Ok, Err, refl, sym, ap, subst, ◌∙◌, arith, append_assoc, drop-cons}
+use Rattle.std.proofs.Common.{◌≡◌, ℕ, ◌+◌, ◌-◌, ◌^◌, ◌≤◌, true, List, [], ◌∷◌, ◌++◌, length, take}
+use Rattle.std.proofs.Common.{drop, get_or, Option, Some, Result, Ok, refl, sym, ap, subst, ◌∙◌, arith, append_assoc, drop-cons}
 use Rattle.std.specs.Prelude.{slice_range, slice_index}
 use Rattle.std.specs.List.{flat_map, AllByRecursion}
 use Rattle.std.specs.Int.{w16, to_be_bytes}
@@ -10,7 +10,7 @@ use Rattle.byte_fields.specs.Reading.{◌>>=◌}
 use Rattle.byte_fields.specs.Law.{IsBytes}
 use Rattle.byte_fields.proofs.Numbers.{IsBytes-drop, IsBytes-take, wide16, front_back}
 use Rattle.upload_frame.specs.declared.fault.FrameFault.{FrameFault}
-use Rattle.upload_frame.specs.Front.{Head, HeadFront, fits_lens, length_of, Format, Front, front_with, front_at, framed}
+use Rattle.upload_frame.specs.Front.{HeadFront, fits_lens, length_of, Format, Front, front_with, front_at, framed}
 use Rattle.upload_frame.specs.Machine.{Ends, Streams}
 use Rattle.upload_frame.specs.Law.{Parts, LawOfFrames}
 use Rattle.upload_frame.proofs.Heads.{IsSpelled, framed_len, head_again, whole_of}

@@ -1,5 +1,5 @@
 -- A reader in a stream: a piece more, a frame more, and the end.
-use Rattle.std.proofs.Common.{◌≡◌, ℕ, zero, suc, ◌+◌, ◌<◌, ◌≤◌, List, [], ◌∷◌, ◌++◌, length, take}
+use Rattle.std.proofs.Common.{◌≡◌, ℕ, ◌+◌, ◌<◌, ◌≤◌, List, [], ◌∷◌, ◌++◌, length}
 use Rattle.std.proofs.Common.{drop, Option, Some, None, Result, Ok, Err, refl, sym, ap, subst, ◌∙◌, arith}
 use Rattle.std.proofs.lemmas.List.{drop-append-le, length-drop, length-append}
 use Rattle.upload_frame.specs.declared.fault.FrameFault.{FrameFault}
@@ -7,7 +7,7 @@ use Rattle.upload_frame.specs.declared.fault.NextFault.{NextFault}
 use Rattle.upload_frame.specs.declared.fault.NextFault.TheVariants as next
 use Rattle.upload_frame.specs.Front.{Format, Front, front_at}
 use Rattle.upload_frame.specs.Law.{IsSettled, LawOfReaders}
-use Rattle.upload_frame.specs.Machine.{ReaderData, reader_of, fed, fed_with, step, step_with, step_by, Step}
+use Rattle.upload_frame.specs.Machine.{ReaderData, reader_of, fed, step, step_with, step_by, Step}
 use Rattle.upload_frame.specs.Machine.{Stepped, GivesNext, Settled, Ends, Streams, Took, FollowsBy, IsDry, Follows}
 use Rattle.upload_frame.proofs.Fronts.{fronts}
 

@@ -1,7 +1,7 @@
 -- The frame at the front of a stream, or the first check that fails there. It holds for frames and for replies: each has a
 -- table of kinds, and a reading of the fields of a whole one.
 use Rattle.std.specs.Prelude.{◌≡◌, ℕ, ◌+◌, ◌<◌, ◌≤◌, ◌⊎◌, Bool, true, not, ◌||◌, ◌&&◌, ◌==◌, nat_lt, nat_le, List}
-use Rattle.std.specs.Prelude.{[], ◌∷◌, ◌++◌, length, take, drop, slice_index, slice_range, Option, None, Some, Result, Ok, Err, if◌then◌else◌}
+use Rattle.std.specs.Prelude.{◌∷◌, ◌++◌, length, take, slice_index, slice_range, Option, None, Some, Result, Ok, Err, if◌then◌else◌}
 use Rattle.std.specs.Int.{w16, from_be_bytes, to_be_bytes}
 use Rattle.byte_fields.specs.Reading.{◌>>=◌}
 use Rattle.lg_model.specs.declared.limits.TheConstants.{MOST_FRAME_BYTES}

@@ -1,5 +1,5 @@
 -- Laws of frames and replies on a stream, each side by its format, its spellings and what has one.
-use Rattle.std.specs.Prelude.{◌≡◌, ℕ, ◌+◌, ◌<◌, ◌≤◌, List, [], ◌∷◌, ◌++◌, length, Option, None, Some, Result, Ok, Err}
+use Rattle.std.specs.Prelude.{◌≡◌, ℕ, ◌<◌, ◌≤◌, List, [], ◌∷◌, ◌++◌, length, Option, None, Some, Ok, Err}
 use Rattle.std.specs.List.{flat_map, AllByRecursion}
 use Rattle.byte_fields.specs.Law.{IsBytes}
 use Rattle.lg_model.specs.Columns.{Column}
@@ -9,7 +9,7 @@ use Rattle.upload_frame.specs.declared.fault.FrameFault.{FrameFault}
 use Rattle.upload_frame.specs.declared.fault.NextFault.TheVariants as next
 use Rattle.upload_frame.specs.Front.{Format, Front, front_at, IsUnfinished}
 use Rattle.upload_frame.specs.Frames.{columns_at}
-use Rattle.upload_frame.specs.Machine.{ReaderData, reader_of, fed, Stepped, Ends, Streams, IsDry, Follows}
+use Rattle.upload_frame.specs.Machine.{ReaderData, reader_of, fed, Stepped, Ends, Streams, Follows}
 
 abbrev pub IsSettled : {F : Type 0} → Front F → Type 0
 IsSettled (Ok None) = ⊥

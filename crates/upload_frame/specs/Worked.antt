@@ -1,16 +1,16 @@
 -- Worked frames and replies, by computation.
-use Rattle.std.specs.Prelude.{◌≡◌, ℕ, List, [], ◌∷◌, ◌++◌, map, take, replicate, true, false, Option, None, Some, Result, Ok, Err}
+use Rattle.std.specs.Prelude.{◌≡◌, ℕ, List, [], ◌∷◌, ◌++◌, map, take, replicate, true, false, None, Some, Ok, Err}
 use Rattle.std.specs.List.{range_with_len}
-use Rattle.lg_model.specs.declared.scenario.Hash.TheVariants.{Ports, Seed}
+use Rattle.lg_model.specs.declared.scenario.Hash.TheVariants.{Ports}
 use Rattle.sketchlet_wire.specs.Uploads.{UploadData, upload_of}
 use Rattle.sketchlet_wire.specs.Worked.{worked, worked_spelling}
 use Rattle.upload_frame.specs.declared.fault.FrameFault.{FrameFault}
-use Rattle.upload_frame.specs.declared.fault.FrameFault.TheVariants.{Length, Kind, BadShape, Count, Twice, Code, KeyNotZero}
+use Rattle.upload_frame.specs.declared.fault.FrameFault.TheVariants.{Length, Kind, Count, Twice, Code, KeyNotZero}
 use Rattle.upload_frame.specs.declared.frame.Frame.{Frame}
 use Rattle.upload_frame.specs.declared.frame.Frame.TheVariants.{Hello, Upload, Bye}
 use Rattle.upload_frame.specs.declared.reply.RefusedWhy.TheVariants as why
 use Rattle.upload_frame.specs.declared.reply.Reply.{Reply}
-use Rattle.upload_frame.specs.declared.reply.Reply.TheVariants.{Welcome, Acknowledged, Refused, Goodbye}
+use Rattle.upload_frame.specs.declared.reply.Reply.TheVariants.{Acknowledged, Refused}
 use Rattle.upload_frame.specs.Front.{Front, front_at}
 use Rattle.upload_frame.specs.Frames.{frames, frame_bytes}
 use Rattle.upload_frame.specs.Replies.{replies, reply_bytes}

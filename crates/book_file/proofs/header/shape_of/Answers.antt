@@ -1,4 +1,4 @@
-use Rattle.std.proofs.Common.{◌≡◌, ◌-◌, ◌∙◌, ℕ, List, length, take, drop, ap, sym, arith, Ok, Err}
+use Rattle.std.proofs.Common.{◌∙◌, ap, sym, arith}
 use Rattle.std.proofs.lemmas.List.{take_rest}
 use Rattle.sketchlet_wire.specs.declared.fault.WireFault.TheVariants.{Short}
 use Rattle.sketchlet_wire.specs.ShapeFields.{shape_at}

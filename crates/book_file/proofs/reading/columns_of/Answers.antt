@@ -1,4 +1,4 @@
-use Rattle.std.proofs.Common.{◌≡◌, ◌∷◌, [], List, length, length-append, ap, sym, subst, arith}
+use Rattle.std.proofs.Common.{◌∷◌, [], List, length, length-append, ap, sym, subst, arith}
 use Rattle.std.specs.List.{AllByRecursion}
 use Rattle.lg_model.specs.Columns.{Column}
 use Rattle.book_file.specs.File.{IsColumnOf}

@@ -3,7 +3,7 @@ use Rattle.std.specs.List.{flat_map, AllByRecursion}
 use Rattle.std.proofs.lemmas.List.{take_rest}
 use Rattle.lg_model.specs.Columns.{Column}
 use Rattle.sketchlet_wire.specs.Uploads.{UploadData}
-use Rattle.book_file.specs.File.{IsColumnOf, IsRecord, body, column_bytes}
+use Rattle.book_file.specs.File.{IsColumnOf, body, column_bytes}
 use Rattle.book_file.proofs.Readings.{no_record, body_read, nothing_after, is_upload, record_read}
 use Rattle.book_file.proofs.reading.record_of.Goals as goal
 

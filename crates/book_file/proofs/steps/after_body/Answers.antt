@@ -1,7 +1,6 @@
 use Rattle.std.proofs.Common.{◌≡◌, ◌++◌, ◌∷◌, ◌∙◌, ℕ, List, sym, subst, ap}
 use Rattle.std.specs.List.{IsDistinct}
 use Rattle.lg_model.specs.declared.column.Dims.{Dims}
-use Rattle.lg_model.specs.Placing.{Shape}
 use Rattle.lg_model.specs.Columns.{dims_of}
 use Rattle.sketchlet_wire.specs.Uploads.{UploadData, same_column_key}
 use Rattle.column_book.specs.Entries.{records}

@@ -1,4 +1,4 @@
-use Rattle.std.proofs.Common.{◌≡◌, arith}
+use Rattle.std.proofs.Common.{arith}
 use Rattle.book_file.proofs.Stepping.{known, shut_long, no_shape}
 use Rattle.book_file.proofs.steps.after_head.Goals as goal
 

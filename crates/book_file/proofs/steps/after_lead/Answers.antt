@@ -1,4 +1,4 @@
-use Rattle.std.proofs.Common.{◌≡◌, ◌++◌, ◌∷◌, ◌≤◌, ℕ, get_or, sym, subst, arith}
+use Rattle.std.proofs.Common.{◌++◌, ◌∷◌, ◌≤◌, get_or, sym, subst}
 use Rattle.column_book.specs.Entries.{records}
 use Rattle.std.proofs.lemmas.Bool.{MatchBool-at_false}
 use Rattle.book_file.specs.declared.stage.Stage.{Stage}

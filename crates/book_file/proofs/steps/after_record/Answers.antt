@@ -1,4 +1,4 @@
-use Rattle.std.proofs.Common.{◌≡◌, ◌+◌, ◌++◌, ◌∷◌, [], ◌≤◌, ◌<◌, ◌∙◌, ℕ, List, false, true, not, length, sym, ap, subst, arith}
+use Rattle.std.proofs.Common.{◌≡◌, ◌++◌, ◌∷◌, [], ◌∙◌, ℕ, List, false, true, not, length, sym, ap, subst, arith}
 use Rattle.std.specs.List.{list_any}
 use Rattle.lg_model.specs.Columns.{Column}
 use Rattle.column_book.specs.Entries.{BookState, content, records}

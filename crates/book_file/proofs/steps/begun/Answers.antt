@@ -1,4 +1,4 @@
-use Rattle.std.proofs.Common.{◌≡◌, ◌∙◌, sym, subst, Option, true}
+use Rattle.std.proofs.Common.{◌≡◌, sym, subst, Option, true}
 use Rattle.std.proofs.lemmas.Bool.{MatchBool-at_true}
 use Rattle.lg_model.specs.Placing.{Shape}
 use Rattle.book_file.specs.Found.{Suits}

@@ -1,4 +1,4 @@
-use Rattle.std.proofs.Common.{◌≡◌, ◌++◌, ◌∷◌, [], ◌∙◌, ℕ, List, length, get_or, sym, subst}
+use Rattle.std.proofs.Common.{◌≡◌, ◌++◌, ℕ, List, length, sym, subst}
 use Rattle.column_book.specs.Entries.{records}
 use Rattle.book_file.specs.declared.stage.Stage.{Stage}
 use Rattle.book_file.specs.File.{front}

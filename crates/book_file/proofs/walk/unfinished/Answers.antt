@@ -1,4 +1,4 @@
-use Rattle.std.proofs.Common.{◌≡◌, ℕ, List, sym, subst}
+use Rattle.std.proofs.Common.{ℕ, List, sym, subst}
 use Rattle.book_file.specs.declared.stage.Stage.{Stage}
 use Rattle.book_file.specs.Found.{Finds}
 use Rattle.book_file.specs.Walk.{Waits}

@@ -1,4 +1,4 @@
-use Rattle.std.proofs.Common.{◌≡◌, ◌<◌, ◌≤◌, ⊎_elim, ℕ, get_or, length, arith}
+use Rattle.std.proofs.Common.{◌≡◌, ⊎_elim, get_or, arith}
 use Rattle.book_file.proofs.Endings.{too_short}
 use Rattle.book_file.proofs.walk.within_head.Goals as goal
 

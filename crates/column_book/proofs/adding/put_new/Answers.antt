@@ -1,4 +1,4 @@
-use Rattle.std.specs.Prelude.{◌≡◌, ◌+◌, ◌∷◌, [], true, cond, is_none, filter, take, length, None}
+use Rattle.std.specs.Prelude.{◌≡◌, ◌+◌, ◌∷◌, [], true, cond, filter, take, length, None}
 use Rattle.std.proofs.Common.{sym, ap, ◌∙◌, subst, arith}
 use Rattle.lg_model.specs.Columns.{Column}
 use Rattle.column_book.specs.Blocks.{kept_at, spot, IsMade}

@@ -1,4 +1,4 @@
-use Rattle.std.specs.Prelude.{◌≡◌, ◌&&◌, ◌++◌, ◌∷◌, [], Some, None, cond, is_none, true}
+use Rattle.std.specs.Prelude.{◌≡◌, ◌&&◌, ◌++◌, ◌∷◌, [], Some, None, cond, is_none}
 use Rattle.std.proofs.Common.{sym, ap, ◌∙◌}
 use Rattle.lg_model.specs.declared.column.Key.{Key}
 use Rattle.sketchlet_wire.specs.Uploads.{same_column_key}

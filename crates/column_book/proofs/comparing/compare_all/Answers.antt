@@ -1,6 +1,5 @@
-use Rattle.std.specs.Prelude.{◌≡◌, ◌+◌, ◌^◌, ◌%◌, ◌<◌, is_none, option_copied, option_and_then, if◌then◌else◌}
+use Rattle.std.specs.Prelude.{◌+◌, ◌^◌, ◌%◌, ◌<◌, is_none, option_copied, option_and_then, if◌then◌else◌}
 use Rattle.std.proofs.Common.{sym, ap, ◌∙◌, subst, arith}
-use Rattle.lg_model.specs.declared.column.Key.{Key}
 use Rattle.column_book.specs.declared.block.Block.{Block}
 use Rattle.column_book.specs.declared.block.Spot.{Spot}
 use Rattle.column_book.specs.Blocks.{block_at, kept_in, kept_at}

@@ -1,4 +1,4 @@
-use Rattle.std.specs.Prelude.{◌≡◌, option_copied}
+use Rattle.std.specs.Prelude.{option_copied}
 use Rattle.std.proofs.Common.{ap, ◌∙◌}
 use Rattle.column_book.proofs.Alike.{same_buckets, inner}
 use Rattle.column_book.proofs.comparing.with.Goals as goal

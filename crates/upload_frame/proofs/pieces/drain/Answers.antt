@@ -1,6 +1,5 @@
-use Rattle.std.proofs.Common.{◌≡◌}
 use Rattle.upload_frame.specs.Frames.{frames}
-use Rattle.upload_frame.proofs.Streams.{readers, rest_falls, dry_none, dry_failed}
+use Rattle.upload_frame.proofs.Streams.{readers, rest_falls, dry_none}
 use Rattle.upload_frame.proofs.pieces.drain.Goals as goal
 
 pub returns-in-Ok-None : goal.returns-in-Ok-None

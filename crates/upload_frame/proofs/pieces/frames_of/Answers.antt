@@ -1,10 +1,10 @@
-use Rattle.std.proofs.Common.{◌≡◌, ◌+◌, ◌++◌, refl, arith, List, ℕ, Option, None, take, get_or, length, ap, sym, subst, ◌∙◌}
+use Rattle.std.proofs.Common.{◌≡◌, ◌+◌, ◌++◌, refl, arith, List, ℕ, Option, take, get_or, length, ap, sym, subst, ◌∙◌}
 use Rattle.std.proofs.lemmas.List.{take_all}
 use Rattle.std.specs.Global.{Vec}
 use Rattle.upload_frame.specs.declared.fault.FrameFault.{FrameFault}
-use Rattle.upload_frame.specs.Front.{head_at, front_at}
+use Rattle.upload_frame.specs.Front.{head_at}
 use Rattle.upload_frame.specs.Frames.{frames}
-use Rattle.upload_frame.specs.Machine.{ReaderData, reader_of, IsDry, Follows, Streams}
+use Rattle.upload_frame.specs.Machine.{ReaderData, Follows, Streams}
 use Rattle.upload_frame.proofs.Streams.{readers, streams_of}
 use Rattle.upload_frame.proofs.PieceBytes.{bytes_of, fits, one_more}
 use Rattle.upload_frame.proofs.pieces.frames_of.Goals as goal

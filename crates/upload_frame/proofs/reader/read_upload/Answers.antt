@@ -1,4 +1,3 @@
-use Rattle.std.proofs.Common.{◌≡◌, Option, None, Some, ap, ◌∙◌}
 use Rattle.upload_frame.specs.declared.frame.Frame.TheVariants.{Hello, Upload, Bye}
 use Rattle.upload_frame.proofs.FrameSpelled.{read_as, read_none, read_broken, not_none, not_broken, not_hello, not_bye, only_upload}
 use Rattle.upload_frame.proofs.reader.read_upload.Goals as goal

@@ -1,4 +1,4 @@
-use Rattle.std.proofs.Common.{◌≡◌, ◌-◌, ◌+◌, ◌++◌, ◌∷◌, [], List, ℕ, take, drop, length, ap, arith, ◌∙◌, sym, length-append, true, false}
+use Rattle.std.proofs.Common.{◌∷◌, [], arith, ◌∙◌, sym, length-append, true, false}
 use Rattle.std.proofs.lemmas.Result.{err_from_is_err_and}
 use Rattle.upload_frame.specs.Frames.{columns_at}
 use Rattle.upload_frame.proofs.ColumnsOf.{goes_on, ends, is_done, is_upload}

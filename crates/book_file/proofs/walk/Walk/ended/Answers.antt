@@ -1,4 +1,4 @@
-use Rattle.std.proofs.Common.{◌≡◌, ◌∙◌, true, false, ap, sym}
+use Rattle.std.proofs.Common.{◌≡◌, ◌∙◌, false, ap, sym}
 use Rattle.book_file.specs.Walk.{WalkState, is_ended}
 use Rattle.book_file.proofs.Feeding.{not_ended}
 use Rattle.book_file.proofs.Closings.{still_going}

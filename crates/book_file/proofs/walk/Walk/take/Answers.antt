@@ -1,7 +1,7 @@
-use Rattle.std.proofs.Common.{◌≡◌, ◌+◌, ◌≤◌, ◌<◌, ◌++◌, ◌∙◌, [], ℕ, List, Bool, true, false, not, length, refl, sym, ap, subst, arith}
+use Rattle.std.proofs.Common.{◌≡◌, ◌+◌, ◌≤◌, ◌<◌, ◌++◌, ◌∙◌, [], ℕ, List, true, false, not, length, refl, sym, ap, subst, arith}
 use Rattle.std.specs.Result.{is_ok}
 use Rattle.book_file.specs.declared.stage.Stage.{Stage}
-use Rattle.book_file.specs.Walk.{WalkState, Fed, IsWalk, is_ended, needed, kept_after, gate_after}
+use Rattle.book_file.specs.Walk.{WalkState, is_ended, needed, kept_after, gate_after}
 use Rattle.book_file.proofs.Feeding.{from_view, walk_on, fed_ended, fed_starved, fed_waiting, fed_stepped, not_ended, kept_none, gate_stays, kept_ok, kept_err}
 use Rattle.book_file.proofs.walk.Walk.take.Goals as goal
 
