@@ -25,7 +25,7 @@ blank_or_not file = elim (cases_lt 1 (length file)) as (λ _. IsBlank file ⊎ (
   | inl long ↦ elim (cases_lt 18 (length file)) as (λ _. IsBlank file ⊎ (IsBlank file → ⊥)) [
     | inl longer ↦ inr (λ b. ⊎_elim (λ le. omega (arith, le, long)) (λ p. let le = p.0 in omega (arith, le, longer)) b)
     | inr few ↦ elim (eqb_tells (slice_index file 0) 1) as (λ _. IsBlank file ⊎ (IsBlank file → ⊥)) [
-      | inl open ↦ inr (λ b. ⊎_elim (λ le. omega (arith, le, long)) (λ p. p.1 open.1) b)
+      | inl gate ↦ inr (λ b. ⊎_elim (λ le. omega (arith, le, long)) (λ p. p.1 gate.1) b)
       | inr shut ↦ inl (inr (omega (arith, few), shut.1))
     ]
   ]
@@ -37,12 +37,12 @@ one_list shape file l m a b = elim (blank_or_not file) as (λ _. l ≡ m) [
   | inr not ↦ (files.law file shape shape l m not a b).1
 ]
 
+none_once : HasKeysOnce []
+unfolding IsDistinct
+none_once = tt
+
 pub keys_once : (shape : Shape) (file : List ℕ) (l : List UploadData) → StandsFor shape l file → HasKeysOnce l
-keys_once shape file l (inl blank) = subst HasKeysOnce (sym blank.1) none
-  where
-    none : HasKeysOnce []
-    unfolding IsDistinct
-    none = tt
+keys_once shape file l (inl blank) = subst HasKeysOnce (sym blank.1) none_once
 keys_once shape file l (inr spelled) = spelled.records_fit.apart
 
 pub standing : LawOfStanding

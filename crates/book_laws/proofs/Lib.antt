@@ -6,3 +6,5 @@ pub mod Growing
 pub mod Refusals
 pub mod Truth
 pub mod Leaving
+pub mod Turns
+pub mod Rows

@@ -1,5 +1,5 @@
 -- The uploads of a scenario: where each stands, and that they have just the columns that are brought.
-use Rattle.std.specs.Prelude.{◌≡◌, ℕ, ◌+◌, ◌<◌, List, [], ◌∷◌, ◌++◌, length, map, All, Contains, slice_index_or}
+use Rattle.std.specs.Prelude.{◌≡◌, ℕ, suc, ◌+◌, ◌<◌, ◌≤◌, List, [], ◌∷◌, ◌++◌, length, map, All, Contains, slice_index_or}
 use Rattle.std.specs.List.{AllByRecursion, flat_map, enumerate_from, range_with_len}
 use Rattle.std.proofs.Common.{refl, sym, ap, ◌∙◌, subst, arith}
 use Rattle.std.proofs.lemmas.List.{length-map, get_or-map}
@@ -19,7 +19,7 @@ use Rattle.run_laws.specs.Booking.{host_uploads, uploads_of}
 use Rattle.run_laws.proofs.Brought.{all_flat as each_flat, brought_dims}
 use Rattle.book_laws.specs.Legal.{no_host, host_at, uploads_at, no_upload, upload_at}
 use Rattle.book_laws.specs.Turns.{count_before}
-use Rattle.book_laws.proofs.Lists.{flat_at, origin, in_flat}
+use Rattle.book_laws.proofs.Lists.{flat_at, origin, in_flat, offset_next, offset_rises}
 
 -- ---- one upload of a host
 
@@ -96,6 +96,17 @@ sent_at w p low =
       place = o.is;
       is = ap (λ (n : ℕ). slice_index_or (uploads_of w) n no_upload) o.is ∙ (placed_at w o.at o.nth declared sent).is;
     }
+
+-- ---- how many come before a host's
+
+pub count_next : (w : Scenario) (h : ℕ) → h < length w.hosts → count_before w (suc h) ≡ count_before w h + length (uploads_at w h)
+count_next w h declared =
+    let many = length-enumerate_from 0 w.hosts in
+    offset_next (host_uploads w) (enumerate_from 0 w.hosts) h (0, no_host) (omega (arith, declared, many))
+    ∙ ap (λ (x : ℕ × HostLine). count_before w h + length (host_uploads w x)) (host_there w h declared)
+
+pub count_rises : (w : Scenario) (h i : ℕ) → h ≤ i → count_before w h ≤ count_before w i
+count_rises w h i low = offset_rises (host_uploads w) (enumerate_from 0 w.hosts) h i low
 
 -- ---- the columns
 

@@ -1,5 +1,5 @@
 -- The laws of a run over a book.
-use Rattle.std.specs.Prelude.{◌≡◌, ℕ, ◌<◌, ◌≤◌, List, [], ◌∷◌, ◌++◌, length, drop, All, Contains, Result, Ok, Err}
+use Rattle.std.specs.Prelude.{◌≡◌, ℕ, ◌+◌, ◌<◌, ◌≤◌, nat_lt, Bool, true, false, List, [], ◌∷◌, ◌++◌, length, drop, All, Contains, Result, Ok, Err}
 use mathlib.Core.List.{IsPrefix}
 use Rattle.lg_model.specs.Placing.{Shape}
 use Rattle.lg_model.specs.Scenario.{Scenario}
@@ -13,12 +13,13 @@ use Rattle.column_book.specs.declared.fault.BookFault.{BookFault}
 use Rattle.column_book.specs.Entries.{records, columns_in, content_in}
 use Rattle.column_book.specs.Applying.{decide, stored_entry, with_new}
 use Rattle.book_file.specs.File.{StandsFor}
+use Rattle.run_laws.specs.Booking.{uploads_of}
 use Rattle.scenario_parts.specs.Whole.{IsWhole}
 use Rattle.book_laws.specs.Legal.{Order, in_order, IsLegal, uploads_at, upload_at}
 use Rattle.book_laws.specs.Leaving.{Files, IsLeft, IsLeftByFiles}
 use Rattle.book_laws.specs.Keeping.{IsHeld, AllHeld, HasKeysOnce, IsJoined, IsCaused, AreAcked}
 use Rattle.book_laws.specs.Truth.{IsTrueFrom}
-use Rattle.book_laws.specs.Turns.{Turn, applied, IsFirstRefused, HasApplied, among_first}
+use Rattle.book_laws.specs.Turns.{Turn, applied, IsFirstRefused, HasApplied, count_before, among_first}
 
 -- ---- legal lists
 
@@ -63,29 +64,44 @@ LawOfFilesLeft was now since = (order : Order) (w : Scenario) (before kept full 
 
 -- ---- uploads in turn
 
--- What holds after the first uploads of a scenario were applied in turn: the list is legal and stays so with the record of
--- the next upload; exactly the uploads that were applied are acknowledged; after the last one all that is brought is
--- there; and where the next one is refused, the cause is as above.
+-- What holds after the first uploads of a scenario were applied in turn. The list is legal, and stays so with the record of
+-- the next upload, which is there where a call of the disk failed in storing it. Those that were applied are acknowledged.
+-- After the last one all that is brought is there; where it was there before, nothing is added. Where the next upload is
+-- refused, the cause is that of the law of refusals.
 pub record IsInTurn (w : Scenario) (first : List Entry) (turns : List Turn) (es : List Entry)
     (rest : List UploadData) : Type 0 where
+  pub begins : IsPrefix first es
   pub legal : IsLegal in_order w (records first) (records es)
   pub next : (pass : ℕ) (u : UploadData) (more : List UploadData) → rest ≡ u ∷ more
       → decide w.shape ROOM (records es) u ≡ Ok (stored_entry pass es u).stored.columns
       → 1 ≤ length (stored_entry pass es u).stored.columns
       → IsLegal in_order w (records first) (records (es ++ stored_entry pass es u ∷ []))
   pub acked : AreAcked w (records first) (records es) (among_first w (length turns))
-  pub done : rest ≡ [] → AllHeld w (records es)
+  pub done : rest ≡ [] → AllHeld w (records es) × IsJoined w (records first) (records es)
+  pub repeats : AllHeld w (records first) → es ≡ first
   pub refused : IsWhole w → HasKeysOnce (records first)
       → (u : UploadData) (more : List UploadData) (fault : BookFault) → rest ≡ u ∷ more
       → decide w.shape ROOM (records es) u ≡ Err fault → IsCaused w (records first) fault
 
+-- A run begins with all uploads to come, and goes on with each one that is taken; so it comes to all of them, or to the
+-- first that is refused.
 pub record LawOfTurns : Type 0 where
-  pub start : (w : Scenario) (first : List Entry) → (rest : List UploadData) × HasApplied w first [] first rest
-  pub step : (w : Scenario) (first es : List Entry) (turns : List Turn) (u : UploadData) (rest : List UploadData)
-      (pass : ℕ) (new : List Column) → HasApplied w first turns es (u ∷ rest)
+  pub start : (w : Scenario) (first : List Entry) → HasApplied w first [] first (uploads_of w)
+  pub step : (w : Scenario) (first : List Entry) (turns : List Turn) (es : List Entry) (u : UploadData)
+      (rest : List UploadData) (pass : ℕ) (new : List Column) → HasApplied w first turns es (u ∷ rest)
       → decide w.shape ROOM (records es) u ≡ Ok new
       → HasApplied w first (turns ++ (pass, u) ∷ []) (with_new es pass u new) rest
-  pub holds : (w : Scenario) (first es : List Entry) (turns : List Turn) (rest : List UploadData)
+  pub holds : (w : Scenario) (first : List Entry) (turns : List Turn) (es : List Entry) (rest : List UploadData)
       → HasApplied w first turns es rest → IsInTurn w first turns es rest
   pub refused : (shape : Shape) (es : List Entry) (turns : List Turn) (fault : BookFault)
       → applied shape es turns ≡ Err fault → IsFirstRefused shape es turns fault
+
+-- Which uploads are among the first k of the host at position h and all of the hosts before it: all of those hosts, the
+-- first k of this one, and none of the later hosts.
+pub record AreAmong (w : Scenario) (h k : ℕ) : Type 0 where
+  pub earlier : (i q : ℕ) → i < h → q < length (uploads_at w i) → among_first w (count_before w h + k) i q ≡ true
+  pub here : (q : ℕ) → among_first w (count_before w h + k) h q ≡ nat_lt q k
+  pub later : (i q : ℕ) → h < i → among_first w (count_before w h + k) i q ≡ false
+
+abbrev pub LawOfCounts : Type 0
+LawOfCounts = (w : Scenario) (h k : ℕ) → h < length w.hosts → k ≤ length (uploads_at w h) → AreAmong w h k

@@ -1,6 +1,6 @@
 //! Laws over the definitions alone, on functions with empty bodies.
 ghost use Rattle.book_laws.specs.Laws.{LawOfLegalLists, LawOfRefusals, LawOfTrueLists, LawOfStanding, LawOfTurns};
-ghost use Rattle.book_laws.specs.Laws.{LawOfFilesLeft};
+ghost use Rattle.book_laws.specs.Laws.{LawOfCounts, LawOfFilesLeft};
 ghost use Rattle.book_laws.specs.Rows.{WorkedBooks};
 
 use lg_disk::Disk;
@@ -38,11 +38,12 @@ pub fn files_left_are_legal<D: Disk>(old: &D, new: &D)
     let _ = new;
 }
 
-/// The law of turns: the uploads of a scenario, applied one after the other, keep the list legal; exactly those that were
-/// applied are acknowledged; after the last one all that is brought is there; and where one is refused, the cause is that
-/// of the law of refusals.
+/// The law of turns: the uploads of a scenario, applied one after the other, keep the list legal. Those that were applied
+/// are acknowledged. After the last one all that is brought is there. Where one is refused, the cause is that of the law of
+/// refusals. Those that were applied are all of some hosts, and the first ones of the host after them.
 pub fn turns_are_legal()
-    ensures { LawOfTurns }
+    ensures turns { LawOfTurns }
+    ensures counts { LawOfCounts }
 {}
 
 /// Two worked runs: their uploads, the lists that they leave, and two lists that no run of them leaves.
