@@ -12,7 +12,7 @@ use Rattle.lg_model.specs.Placing.{Shape}
 use Rattle.lg_model.specs.Columns.{Cells, Column}
 use Rattle.lg_model.specs.Answer.{Content, key_cmp, with_column, content_of, found}
 use Rattle.lg_model.specs.Joining.{AreJoinable, join}
-use Rattle.lg_model.proofs.Maps.{InOrder, in_order_after, length-insert_new}
+use Rattle.lg_model.proofs.Maps.{InOrder, length-insert_new}
 use Rattle.sketchlet_wire.specs.Uploads.{UploadData, IsUpload, same_column_key}
 use Rattle.column_book.specs.declared.entry.Entry.{Entry}
 use Rattle.column_book.specs.declared.fault.BookFault.{BookFault}
@@ -166,7 +166,7 @@ length_new m (c ∷ cs) apart none =
     still : (x : Column) → Contains cs x → found (with_column m c) x.key ≡ None
     still x inside =
         let far : is_at (key_cmp x.key) c.key ≡ false = is_at_key x.key c.key ∙ same_column_key-flip x.key c.key
-            ∙ All-contains (Unlike c.key) (keys_of cs) x.key (All-from_recursion (Unlike c.key) (keys_of cs) apart.0) (contains_map (λ (y : Column). y.key) cs x inside) in
+        ∙ All-contains (Unlike c.key) (keys_of cs) x.key (All-from_recursion (Unlike c.key) (keys_of cs) apart.0) (contains_map (λ (y : Column). y.key) cs x inside) in
         told m c x.key false far ∙ All-contains (λ (y : Column). found m y.key ≡ None) cs x (All-tail (λ (y : Column). found m y.key ≡ None) c cs none) inside
 
 -- ---- lists of records
@@ -243,7 +243,7 @@ taken_in shape room l u new is =
     let here : decide shape room (records es) u ≡ Ok new = ap (λ (rs : List UploadData). decide shape room rs u) same ∙ is in
     let law = joins.law shape room es 0 u new here in
     let grown : fold with_column (content es) new ≡ join (content es) (content_of u.columns) =
-        sym (content_new es u new) ∙ ap (λ (d : Result (List Column) BookFault). content (after_decision es 0 u d)) (sym here) ∙ law.joined in
+    sym (content_new es u new) ∙ ap (λ (d : Result (List Column) BookFault). content (after_decision es 0 u d)) (sym here) ∙ law.joined in
     subst (λ (rs : List UploadData). IsTakenIn rs u new) same (record { joinable = law.joinable; joined = grown })
 
 -- what was found is found after it
@@ -263,5 +263,5 @@ taken_keeps l u new is k v h =
 pub taken_holds : (l : List UploadData) (u : UploadData) (new : List Column) → IsTakenIn l u new → IsUpload u.columns → All (IsHeld (fold with_column (content_in l) new)) u.columns
 taken_holds l u new is whole =
     All-weaker (Contains u.columns) (IsHeld (fold with_column (content_in l) new)) (λ c has.
-        ap (λ (m : Content). found m c.key) is.joined ∙ found-join (content_in l) (content_of u.columns) c.key (in_order [] u.columns tt)
-        ∙ ap (λ (o : Option Cells). option_or o (found (content_in l) c.key)) (own_found u.columns whole c has)) u.columns (All-contains_itself u.columns)
+    ap (λ (m : Content). found m c.key) is.joined ∙ found-join (content_in l) (content_of u.columns) c.key (in_order [] u.columns tt)
+    ∙ ap (λ (o : Option Cells). option_or o (found (content_in l) c.key)) (own_found u.columns whole c has)) u.columns (All-contains_itself u.columns)

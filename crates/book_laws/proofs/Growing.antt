@@ -1,18 +1,18 @@
 -- The law of legal lists.
-use Rattle.std.specs.Prelude.{◌≡◌, ◌≢◌, ◌⊎◌, ℕ, ◌<◌, ◌≤◌, List, [], ◌∷◌, ◌++◌, length, drop, All, Contains, Option, Some, None, IfSome, slice_index_or}
+use Rattle.std.specs.Prelude.{◌≡◌, ◌⊎◌, List, [], ◌∷◌, ◌++◌, length, drop, All, Contains, Option, Some, None, IfSome}
 use Rattle.std.specs.Option.{option_or}
 use Rattle.std.specs.Ordering.{is_eq}
 use Rattle.std.specs.declared.cmp.Ordering.TheVariants.{Equal}
 use Rattle.std.proofs.Common.{refl, sym, ap, ◌∙◌, subst, arith, inl, inr, append_assoc}
 use Rattle.std.proofs.lemmas.List.{append-nil, drop_at}
-use Rattle.std.proofs.lemmas.List.Elements.{All-head, All-contains, All-weaker, All-same}
+use Rattle.std.proofs.lemmas.List.Elements.{All-head, All-contains}
 use mathlib.Core.List.{IsPrefix}
 use Rattle.lg_model.specs.declared.column.Key.{Key}
 use Rattle.lg_model.specs.Scenario.{Scenario}
 use Rattle.lg_model.specs.Carrying.{picked}
 use Rattle.lg_model.specs.Arriving.{brought_to_all}
 use Rattle.lg_model.specs.Columns.{Cells, Column}
-use Rattle.lg_model.specs.Answer.{Content, key_cmp, content_of, found}
+use Rattle.lg_model.specs.Answer.{Content, key_cmp, found}
 use Rattle.lg_model.specs.Joining.{join}
 use Rattle.lg_model.proofs.Maps.{InOrder, Within, one_map}
 use Rattle.sketchlet_wire.specs.Uploads.{UploadData}
@@ -23,7 +23,7 @@ use Rattle.column_book.proofs.Joins.{keys_total, in_order, join_in_order, found-
 use Rattle.run_laws.specs.Truth.{book_of}
 use Rattle.book_laws.specs.Legal.{Order, AreLegalNext, IsLegal, upload_at}
 use Rattle.book_laws.specs.Keeping.{IsHeld, AllHeld, HasKeysOnce, IsJoined}
-use Rattle.book_laws.specs.Laws.{IsGrown, LawOfLegalLists}
+use Rattle.book_laws.specs.Laws.{LawOfLegalLists}
 use Rattle.book_laws.proofs.Lists.{same_rest}
 use Rattle.book_laws.proofs.Contents.{Has, none_some, some_same, if_some, came_from, some_found, new_absent, content_in_order}
 use Rattle.book_laws.proofs.Legal.{are_new, legal_keeps, next_brought, legal_brought, legal_once, found_from, legal_front}
@@ -109,7 +109,7 @@ nothing_new order w before (r ∷ more) legal all = absurd (by r.columns refl)
         let same : new_columns m (upload_at w legal.0.at r.seq).columns ≡ c ∷ cs = sym (are_new order w before r legal.0) ∙ is in
         let none : found m c.key ≡ None = All-head News c cs (subst (All News) same (new_absent m (upload_at w legal.0.at r.seq).columns)) in
         let came : Contains (brought_to_all w (picked w)) c =
-            All-head (Contains (brought_to_all w (picked w))) c cs (subst (All (Contains (brought_to_all w (picked w)))) is (next_brought order w before r legal.0)) in
+        All-head (Contains (brought_to_all w (picked w))) c cs (subst (All (Contains (brought_to_all w (picked w)))) is (next_brought order w before r legal.0)) in
         none_some c.cells (sym none ∙ All-contains (IsHeld m) (brought_to_all w (picked w)) c all came)
 
 -- what lies between the list that was found and a legal one is legal

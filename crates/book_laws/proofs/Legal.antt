@@ -1,13 +1,13 @@
 -- What a legal list has.
-use Rattle.std.specs.Prelude.{◌≡◌, ◌⊎◌, ℕ, List, [], ◌∷◌, ◌++◌, All, Contains, Some}
-use Rattle.std.proofs.Common.{refl, sym, ap, ◌∙◌, subst, inl, inr, append_assoc}
+use Rattle.std.specs.Prelude.{◌≡◌, ◌⊎◌, List, [], ◌∷◌, ◌++◌, All, Contains, Some}
+use Rattle.std.proofs.Common.{sym, ap, ◌∙◌, subst, inl, inr, append_assoc}
 use Rattle.std.proofs.lemmas.List.{append-nil}
 use Rattle.std.proofs.lemmas.List.Elements.{All-nil, All-append, All-contains, All-filter, All-same}
 use Rattle.lg_model.specs.declared.column.Key.{Key}
 use Rattle.lg_model.specs.Scenario.{Scenario}
 use Rattle.lg_model.specs.Carrying.{picked}
 use Rattle.lg_model.specs.Arriving.{brought_to_all}
-use Rattle.lg_model.specs.Columns.{Cells, Column}
+use Rattle.lg_model.specs.Columns.{Cells}
 use Rattle.lg_model.specs.Answer.{Content, found}
 use Rattle.sketchlet_wire.specs.Uploads.{UploadData}
 use Rattle.column_book.specs.declared.book.TheConstants.{ROOM}
@@ -63,11 +63,11 @@ module _ (order : Order) (w : Scenario) where
       as (λ _. (found (content_in l) k ≡ Some v) ⊎ Has (brought_to_all w (picked w)) k v) [
         | inl old ↦ inl old
         | inr new ↦ inr (record {
-            column = new.column;
-            inside = All-contains (Contains (brought_to_all w (picked w))) (columns_in more) new.column (legal_brought l more all) new.inside;
-            key = new.key;
-            cells = new.cells;
-          })
+          column = new.column;
+          inside = All-contains (Contains (brought_to_all w (picked w))) (columns_in more) new.column (legal_brought l more all) new.inside;
+          key = new.key;
+          cells = new.cells;
+        })
       ]
 
   -- ---- fronts, and what comes after them

@@ -1,13 +1,13 @@
 -- Why an upload of a run is refused.
-use Rattle.std.specs.Prelude.{◌≡◌, ◌≢◌, ◌⊎◌, ℕ, ◌+◌, ◌<◌, ◌≤◌, List, [], ◌++◌, length, fold, All, Contains, Option, Some, None, Err, slice_index_or}
+use Rattle.std.specs.Prelude.{◌≡◌, ℕ, ◌<◌, List, [], ◌++◌, length, fold, Contains, Option, Some, None, Err}
 use Rattle.std.specs.Option.{option_or}
 use Rattle.std.proofs.Common.{refl, sym, ap, ◌∙◌, subst, arith, inl, inr}
-use Rattle.std.proofs.lemmas.List.Elements.{All-contains, All-get_or}
+use Rattle.std.proofs.lemmas.List.Elements.{All-contains}
 use Rattle.lg_model.specs.declared.column.Key.{Key}
 use Rattle.lg_model.specs.Scenario.{Scenario}
 use Rattle.lg_model.specs.Carrying.{picked}
 use Rattle.lg_model.specs.Arriving.{brought_to_all}
-use Rattle.lg_model.specs.Columns.{Cells, Column, dims_of}
+use Rattle.lg_model.specs.Columns.{Cells, Column}
 use Rattle.lg_model.specs.Answer.{Content, key_cmp, with_column, found}
 use Rattle.lg_model.specs.Joining.{IsFrozen, join}
 use Rattle.lg_model.proofs.Maps.{HasKeys, no_longer}
@@ -15,7 +15,7 @@ use Rattle.sketchlet_wire.specs.Uploads.{UploadData, no_column}
 use Rattle.column_book.specs.declared.book.TheConstants.{ROOM}
 use Rattle.column_book.specs.declared.fault.BookFault.{BookFault}
 use Rattle.column_book.specs.declared.fault.BookFault.TheVariants.{WrongShape, Conflict, Full}
-use Rattle.column_book.specs.Entries.{columns_in, content_in}
+use Rattle.column_book.specs.Entries.{content_in}
 use Rattle.column_book.specs.Applying.{decide}
 use Rattle.column_book.specs.Outcomes.{IsConflict, IsPastRoom, Follows}
 use Rattle.column_book.proofs.Joins.{keys_total, in_order, join_in_order, found-join}
@@ -25,10 +25,10 @@ use Rattle.run_laws.specs.Truth.{IsFrozenColumn, book_of}
 use Rattle.run_laws.proofs.Agreeing.{cells_at}
 use Rattle.run_laws.proofs.Insertions.{longer}
 use Rattle.run_laws.proofs.True.{true_run}
-use Rattle.book_laws.specs.Legal.{Order, AreLegalNext, IsLegal, uploads_at, upload_at}
+use Rattle.book_laws.specs.Legal.{Order, AreLegalNext, uploads_at, upload_at}
 use Rattle.book_laws.specs.Keeping.{HasKeysOnce, IsClash, IsOverfull, IsCaused}
 use Rattle.book_laws.specs.Laws.{LawOfRefusals}
-use Rattle.book_laws.proofs.Contents.{Has, none_some, came_from, some_found, content_in_order, as_many}
+use Rattle.book_laws.proofs.Contents.{Has, came_from, some_found, content_in_order, as_many}
 use Rattle.book_laws.proofs.Uploads.{numbered_at, own_columns, own_sized}
 use Rattle.book_laws.proofs.Legal.{legal_once, found_from}
 
@@ -93,11 +93,11 @@ module _ (order : Order) (w : Scenario) (before more : List UploadData) (legal :
       | inr added ↦ from_brought k v added
     ]
     | inr new ↦ from_brought k v (record {
-        column = new.column;
-        inside = All-contains (Contains came) u.columns new.column (own_columns w h q declared sent) new.inside;
-        key = new.key;
-        cells = new.cells;
-      })
+      column = new.column;
+      inside = All-contains (Contains came) u.columns new.column (own_columns w h q declared sent) new.inside;
+      key = new.key;
+      cells = new.cells;
+    })
   ]
 
   -- there is no room only where the keys are too many
@@ -109,7 +109,7 @@ module _ (order : Order) (w : Scenario) (before more : List UploadData) (legal :
       let each = as_many grown (legal_once order w before more legal once) in
       let long = longer (content_in grown) u.columns (content_in_order grown) (numbered_at w h q sent).whole in
       let least = no_longer keys_total (fold with_column (content_in grown) u.columns) both
-          (in_order (content_in grown) u.columns (content_in_order grown)) (join_in_order (content_in before) (book_of w) (content_in_order before)) keys in
+      (in_order (content_in grown) u.columns (content_in_order grown)) (join_in_order (content_in before) (book_of w) (content_in_order before)) keys in
       omega (arith, over, has, adds, each, long, least)
 
   caused : IsWhole w → HasKeysOnce before → (fault : BookFault) → Follows w.shape ROOM grown u (Err fault) → IsCaused w before fault

@@ -1,5 +1,5 @@
 -- What a run adds is true, and so are its answers.
-use Rattle.std.specs.Prelude.{◌≡◌, ◌≢◌, ◌⊎◌, ◌↔◌, ℕ, ◌<◌, List, [], ◌++◌, length, drop, All, Contains, Option, Some, None, IfSome, slice_index_or}
+use Rattle.std.specs.Prelude.{◌≡◌, ◌↔◌, ℕ, ◌<◌, List, [], length, drop, Contains, Option, Some, None, IfSome, slice_index_or}
 use Rattle.std.specs.Option.{option_or}
 use Rattle.std.proofs.Common.{refl, sym, ap, ◌∙◌, subst, inl, inr}
 use Rattle.std.proofs.lemmas.List.Elements.{All-contains, All-weaker}
@@ -8,21 +8,20 @@ use Rattle.lg_model.specs.declared.scenario.Ask.{Ask}
 use Rattle.lg_model.specs.Scenario.{Scenario}
 use Rattle.lg_model.specs.Carrying.{picked}
 use Rattle.lg_model.specs.Arriving.{brought_to_all}
-use Rattle.lg_model.specs.Columns.{Cells, Column}
+use Rattle.lg_model.specs.Columns.{Cells}
 use Rattle.lg_model.specs.Answer.{Content, found, look_in}
 use Rattle.lg_model.specs.Joining.{IsFrozen, AgreesWith}
 use Rattle.sketchlet_wire.specs.Uploads.{UploadData}
 use Rattle.column_book.specs.Entries.{columns_in, content_in}
 use Rattle.column_book.proofs.Joins.{in_order, found-join}
 use Rattle.flow_query.specs.Told.{NoneIsKnown}
-use Rattle.scenario_parts.specs.Whole.{IsWhole}
 use Rattle.run_laws.specs.Truth.{IsTrueIn, IsFrozenColumn, NoneArrived, asked_key, book_of, place_key}
 use Rattle.run_laws.proofs.Agreeing.{true_book}
 use Rattle.run_laws.proofs.Found.{none_has, none_found}
 use Rattle.run_laws.proofs.True.{true_run}
-use Rattle.book_laws.specs.Legal.{Order, IsLegal}
+use Rattle.book_laws.specs.Legal.{IsLegal}
 use Rattle.book_laws.specs.Keeping.{IsJoined}
-use Rattle.book_laws.specs.Truth.{NoneFound, IsTrueAfter, IsTrueFrom}
+use Rattle.book_laws.specs.Truth.{NoneFound, IsTrueAfter}
 use Rattle.book_laws.specs.Laws.{LawOfTrueLists}
 use Rattle.book_laws.proofs.Contents.{none_some, if_some, of_if}
 use Rattle.book_laws.proofs.Growing as growing

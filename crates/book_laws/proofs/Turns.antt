@@ -1,35 +1,33 @@
 -- What holds of uploads that are applied one after the other.
-use Rattle.std.specs.Prelude.{◌≡◌, ◌≢◌, ◌⊎◌, ℕ, zero, suc, ◌+◌, ◌-◌, ◌<◌, ◌≤◌, ◌==◌, not, nat_lt, Bool, true, false, cond, List, [], ◌∷◌, ◌++◌, length, map, fold, All, Contains, Option, Some, None, Result, Ok, Err, slice_index_or}
-use Rattle.std.specs.List.{flat_map, range_with_len, slice_get}
+use Rattle.std.specs.Prelude.{◌≡◌, ◌⊎◌, ℕ, zero, suc, ◌+◌, ◌-◌, ◌<◌, ◌≤◌, ◌==◌, not, nat_lt, Bool, true, false, cond, List, [], ◌∷◌, ◌++◌, length, fold, All, Some, None, Result, Ok, Err, slice_index_or}
+use Rattle.std.specs.List.{range_with_len, slice_get}
 use Rattle.std.proofs.Common.{refl, sym, ap, ◌∙◌, subst, arith, inl, inr, append_assoc, length-append}
 use Rattle.std.proofs.Math.Seq.{get_or-append_seam}
 use Rattle.std.proofs.lemmas.List.{append-nil, map-append, length-map}
 use Rattle.std.proofs.lemmas.List.Sums.{take_while-cons}
-use Rattle.std.proofs.lemmas.List.Elements.{All-nil, All-cons, All-same, All-weaker, All-contains, All-contains_itself, All-from_get_or}
+use Rattle.std.proofs.lemmas.List.Elements.{All-nil, All-cons, All-same, All-weaker, All-contains, All-from_get_or}
 use Rattle.std.proofs.lemmas.List.Folds.{Any-from_list_any}
 use Rattle.std.proofs.lemmas.Bool.{cases_lt, ltb-true, lt-ltb, le-ltb}
 use Rattle.std.proofs.lemmas.Bool.Decides.{eqb_tells}
 use Rattle.std.proofs.lemmas.Grind.{fold-append}
 use Rattle.lg_model.specs.Placing.{Shape}
 use Rattle.lg_model.specs.Scenario.{Scenario}
-use Rattle.lg_model.specs.Carrying.{picked}
-use Rattle.lg_model.specs.Arriving.{brought_to_all}
 use Rattle.lg_model.specs.Columns.{Column}
 use Rattle.lg_model.specs.Answer.{Content, with_column, found}
 use Rattle.sketchlet_wire.specs.Uploads.{UploadData, IsUpload, upload_of, holds_key, same_column_key}
 use Rattle.column_book.specs.declared.book.TheConstants.{ROOM}
 use Rattle.column_book.specs.declared.entry.Entry.{Entry}
 use Rattle.column_book.specs.declared.fault.BookFault.{BookFault}
-use Rattle.column_book.specs.Entries.{records, columns_in, content_in, content}
+use Rattle.column_book.specs.Entries.{records, content_in, content}
 use Rattle.column_book.specs.Applying.{new_columns, decide, entry_with, stored_entry, with_new}
 use Rattle.column_book.proofs.Applying.{taken}
 use Rattle.column_book.proofs.Keys.{one_key}
 use Rattle.scenario_parts.specs.Whole.{IsWhole}
-use Rattle.run_laws.specs.Booking.{host_uploads, uploads_of, booked_by}
+use Rattle.run_laws.specs.Booking.{uploads_of, booked_by}
 use Rattle.book_laws.specs.Legal.{host_at, no_upload, uploads_at, upload_at, in_order, order_at, before_first, IsApart, IsLegalNext, AreLegalNext, IsLegal}
-use Rattle.book_laws.specs.Keeping.{IsHeld, AllHeld, HasKeysOnce, IsCaused, IsAnswered, AreAcked, KeepsReplies}
+use Rattle.book_laws.specs.Keeping.{IsHeld, AllHeld, HasKeysOnce, IsCaused, AreAcked}
 use Rattle.book_laws.specs.Turns.{Turn, uploads_in, with_turn, applied, IsFirstRefused, HasApplied, count_before, among_first}
-use Rattle.book_laws.specs.Laws.{IsGrown, IsInTurn, LawOfTurns, AreAmong, LawOfCounts}
+use Rattle.book_laws.specs.Laws.{IsGrown, IsInTurn, LawOfTurns, LawOfCounts}
 use Rattle.book_laws.proofs.Lists.{all_flat, get_right, get_last, front_itself, front_of_front}
 use Rattle.book_laws.proofs.Contents.{none_some, new_absent, content_more, taken_in, taken_keeps, taken_holds}
 use Rattle.book_laws.proofs.Uploads.{numbered_at, placed_at, IsSent, sent_at, columns_are, count_next, count_rises}
@@ -161,8 +159,8 @@ module _ (w : Scenario) (first es : List Entry) (n : ℕ) (u : UploadData) (old 
   stands_stored pass c cs some =
       let r = upload_of (host_at w its.at).name its.seq new in
       let rows : records (with_new es pass u new) ≡ records es ++ r ∷ [] =
-          ap (λ (x : List Column). records (with_new es pass u x)) some ∙ records_new es pass u c cs
-          ∙ ap (λ (x : List Column). records es ++ upload_of u.host u.seq x ∷ []) (sym some) ∙ ap (λ (x : UploadData). records es ++ x ∷ []) own_record in
+      ap (λ (x : List Column). records (with_new es pass u x)) some ∙ records_new es pass u c cs
+      ∙ ap (λ (x : List Column). records es ++ upload_of u.host u.seq x ∷ []) (sym some) ∙ ap (λ (x : UploadData). records es ++ x ∷ []) own_record in
       let long = ap length some in
       record {
         begins = subst (IsPrefix first) (ap (λ (x : List Column). with_new es pass u x) (sym some))
@@ -307,7 +305,7 @@ module _ (w : Scenario) (first : List Entry) (turns : List Turn) (es : List Entr
         let j : ℕ = i - length (records first) in
         let place : i ≡ length (records first) + j = omega (arith, far) in
         let there : slice_get now.more j ≡ Some r =
-            sym (get_right (records first) now.more j) ∙ ap (λ n. slice_get (records first ++ now.more) n) (sym place) ∙ ap (λ (x : List UploadData). slice_get x i) (sym now.is) ∙ h in
+        sym (get_right (records first) now.more j) ∙ ap (λ n. slice_get (records first ++ now.more) n) (sym place) ∙ ap (λ (x : List UploadData). slice_get x i) (sym now.is) ∙ h in
         let a = now.among j r there in
         record { at = a.at; declared = a.declared; sent = a.sent; host = a.host; told = λ keeps. lt-ltb (count_before w a.at + r.seq) (length turns) a.place };
   }

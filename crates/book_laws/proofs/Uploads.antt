@@ -1,6 +1,6 @@
 -- The uploads of a scenario: where each stands, and that they have just the columns that are brought.
 use Rattle.std.specs.Prelude.{◌≡◌, ℕ, suc, ◌+◌, ◌<◌, ◌≤◌, List, [], ◌∷◌, ◌++◌, length, map, All, Contains, slice_index_or}
-use Rattle.std.specs.List.{AllByRecursion, flat_map, enumerate_from, range_with_len}
+use Rattle.std.specs.List.{flat_map, enumerate_from, range_with_len}
 use Rattle.std.proofs.Common.{refl, sym, ap, ◌∙◌, subst, arith}
 use Rattle.std.proofs.lemmas.List.{length-map, get_or-map}
 use Rattle.std.proofs.lemmas.List.FromFn.{length-enumerate_from, get_or-enumerate_from}
@@ -11,7 +11,7 @@ use Rattle.lg_model.specs.Scenario.{Scenario}
 use Rattle.lg_model.specs.Carrying.{picked}
 use Rattle.lg_model.specs.Arriving.{brought, brought_to_all}
 use Rattle.lg_model.specs.Columns.{Column, dims_of}
-use Rattle.sketchlet_wire.specs.Uploads.{UploadData, IsUpload, upload_of, no_column}
+use Rattle.sketchlet_wire.specs.Uploads.{UploadData, IsUpload, upload_of}
 use Rattle.host_collect.specs.Cutting.{Piece, cut}
 use Rattle.host_collect.proofs.Cutting.{cut_law, cut_whole}
 use Rattle.column_book.specs.Entries.{columns_in}
@@ -43,7 +43,7 @@ numbered_at w h q low =
     let few : q < length ps = omega (arith, low, size, count) in
     let item : slice_index_or (enumerate_from 0 ps) q (0, []) ≡ (0 + q, slice_index_or ps q []) = get_or-enumerate_from 0 ps q (0, []) few in
     let is : upload_at w h q ≡ made w h (0 + q, slice_index_or ps q []) =
-        get_or-map (made w h) (enumerate_from 0 ps) q (0, []) no_upload (omega (arith, few, count)) ∙ ap (made w h) item in
+    get_or-map (made w h) (enumerate_from 0 ps) q (0, []) no_upload (omega (arith, few, count)) ∙ ap (made w h) item in
     let zero_more : 0 + q ≡ q = omega arith in
     record {
       host = ap (λ (u : UploadData). u.host) is;

@@ -1,5 +1,5 @@
 -- What a run keeps of the uploads, and why it refuses one.
-use Rattle.std.specs.Prelude.{◌≡◌, ◌≢◌, ℕ, ◌<◌, ◌≤◌, ◌+◌, List, length, map, All, Contains, Bool, true, Some}
+use Rattle.std.specs.Prelude.{◌≡◌, ◌≢◌, ℕ, ◌<◌, ◌≤◌, ◌+◌, List, length, All, Contains, Bool, true, Some}
 use Rattle.std.specs.List.{slice_get, IsDistinct}
 use Rattle.lg_model.specs.declared.scenario.Letter.{Letter}
 use Rattle.lg_model.specs.declared.scenario.Letter.TheVariants.{LoseReply}

@@ -1,5 +1,5 @@
 -- What a run leaves on a disk, at any moment and in the end.
-use Rattle.std.specs.Prelude.{◌≡◌, ◌⊎◌, ℕ, ◌+◌, ◌≤◌, List, length}
+use Rattle.std.specs.Prelude.{◌⊎◌, ℕ, ◌+◌, ◌≤◌, List, length}
 use mathlib.Core.List.{IsPrefix}
 use Rattle.lg_model.specs.Scenario.{Scenario}
 use Rattle.sketchlet_wire.specs.Uploads.{UploadData}

@@ -13,5 +13,7 @@
 
 mod laws;
 
-pub use laws::{files_left_are_legal, files_stand_for_one_list, legal_lists_grow, lists_are_true};
-pub use laws::{refusals_have_causes, turns_are_legal, worked_books};
+pub use laws::{
+    files_left_are_legal, files_stand_for_one_list, legal_lists_grow, lists_are_true,
+    refusals_have_causes, turns_are_legal, worked_books,
+};
