@@ -1,0 +1,81 @@
+-- Which lists the worked runs leave.
+use Rattle.std.specs.Prelude.{◌≡◌, ℕ, zero, suc, ◌<◌, List, [], ◌∷◌, ◌++◌, All, false, Result, Ok}
+use Rattle.std.proofs.Common.{refl, sym, subst, arith, true≢false}
+use Rattle.std.proofs.lemmas.List.Elements.{All-from_recursion, All-nil}
+use Rattle.lg_model.specs.Scenario.{Scenario}
+use Rattle.lg_model.specs.Columns.{Column}
+use Rattle.lg_model.specs.Worked.{first, first_again, late}
+use Rattle.sketchlet_wire.specs.Uploads.{UploadData, holds_key}
+use Rattle.column_book.specs.declared.book.TheConstants.{ROOM}
+use Rattle.column_book.specs.declared.fault.BookFault.{BookFault}
+use Rattle.column_book.specs.Applying.{decide}
+use Rattle.book_laws.specs.Legal.{Order, in_order, upload_at, order_at, before_first, IsApart, IsLegalNext, AreLegalNext, IsLegal}
+use Rattle.book_laws.specs.Rows.{sole, left, right, record_of, WorkedBooks}
+use Rattle.book_laws.proofs.Lists.{same_rest}
+
+abbrev once : Scenario
+once = first 20 first_again
+
+first_next : IsLegalNext in_order once [] (record_of 0 (sole ∷ []))
+first_next = record { at = 0; declared = omega arith; sent = omega arith; host = refl; stored = refl; some = omega arith; first = All-nil _ }
+
+-- the third upload of the late run, after the record of the first
+third_next : IsLegalNext in_order late (record_of 0 (left ∷ []) ∷ []) (record_of 2 (right ∷ []))
+third_next = record {
+  at = 0;
+  declared = omega arith;
+  sent = omega arith;
+  host = refl;
+  stored = refl;
+  some = omega arith;
+  first = All-from_recursion (λ q. IsApart (record_of 2 (right ∷ [])) (upload_at late 0 q)) (0 ∷ 1 ∷ []) (free, (free, tt));
+}
+  where
+    free : All (λ (c : Column). holds_key c.key (left ∷ []) ≡ false) (right ∷ [])
+    free = All-from_recursion (λ (c : Column). holds_key c.key (left ∷ []) ≡ false) (right ∷ []) (refl, tt)
+
+late_next : IsLegalNext in_order late [] (record_of 0 (left ∷ []))
+late_next = record { at = 0; declared = omega arith; sent = omega arith; host = refl; stored = refl; some = omega arith; first = All-nil _ }
+
+-- ---- lists that aren't legal
+
+each_of : (order : Order) (w : Scenario) (before more : List UploadData) → IsLegal order w before (before ++ more) → AreLegalNext order w before more
+each_of order w before more legal = subst (AreLegalNext order w before) (same_rest before legal.more more (sym legal.begins)) legal.each
+
+abbrev Taken : Type 0
+Taken = Result (List Column) BookFault
+
+none_taken : (c : Column) → ◌≡◌ {A = Taken} (Ok []) (Ok (c ∷ [])) → ⊥
+none_taken c h = absurd (cc h)
+
+not_twice : IsLegal in_order once [] (record_of 0 (sole ∷ []) ∷ record_of 0 (sole ∷ []) ∷ []) → ⊥
+not_twice legal =
+    let second = (each_of in_order once [] (record_of 0 (sole ∷ []) ∷ record_of 0 (sole ∷ []) ∷ []) legal).1.0 in
+    at_host second.at second.declared second.stored
+  where
+    at_host : (h : ℕ) → h < 1 → decide once.shape ROOM (record_of 0 (sole ∷ []) ∷ []) (upload_at once h 0) ≡ Ok (sole ∷ []) → ⊥
+    at_host zero low stored = none_taken sole stored
+    at_host (suc h) low stored = omega (arith, low)
+
+not_the_third : IsLegal in_order late [] (record_of 2 (left ∷ right ∷ []) ∷ []) → ⊥
+not_the_third legal =
+    let next = (each_of in_order late [] (record_of 2 (left ∷ right ∷ []) ∷ []) legal).0 in
+    at_host next.at next.declared next.first
+  where
+    at_host : (h : ℕ) → h < 1 → All (λ q. IsApart (record_of 2 (left ∷ right ∷ [])) (upload_at late h q)) (before_first 2 (order_at in_order late h)) → ⊥
+    at_host zero low first = true≢false (first 0 0 (omega arith) 0 left (omega arith))
+    at_host (suc h) low first = omega (arith, low)
+
+pub worked : WorkedBooks
+worked = record {
+  one_upload = refl;
+  no_upload = refl;
+  three_uploads = refl;
+  two_before = refl;
+  in_turn = refl;
+  first_book = record { more = record_of 0 (sole ∷ []) ∷ []; begins = refl; each = (first_next, tt) };
+  nothing_new = record { more = []; begins = refl; each = tt };
+  late_book = record { more = record_of 0 (left ∷ []) ∷ record_of 2 (right ∷ []) ∷ []; begins = refl; each = (late_next, (third_next, tt)) };
+  not_twice = not_twice;
+  not_the_third = not_the_third;
+}

@@ -1,0 +1,51 @@
+-- What a run leaves on a disk, at any moment and in the end.
+use Rattle.std.specs.Prelude.{◌⊎◌, ℕ, ◌+◌, ◌≤◌, List, length}
+use mathlib.Core.List.{IsPrefix}
+use Rattle.lg_model.specs.Scenario.{Scenario}
+use Rattle.sketchlet_wire.specs.Uploads.{UploadData}
+use Rattle.book_laws.specs.Legal.{Order, IsLegal}
+
+-- A set of files.
+abbrev pub Files : Type 1
+Files = List ℕ → Type 0
+
+-- Which files stand for a list of records.
+abbrev pub Standing : Type 1
+Standing = List UploadData → Files
+
+-- The file stands for a list that begins with the one list and is a front of the other.
+pub record IsBetween (stands : Standing) (least most : List UploadData) (file : List ℕ) : Type 0 where
+  pub list : List UploadData
+  pub is : stands list file
+  pub begins : IsPrefix least list
+  pub ends : IsPrefix list most
+
+-- A disk is settled at a list: whatever file a crash leaves stands for it.
+abbrev pub IsSettled : Standing → List UploadData → Files → Type 0
+IsSettled stands list images = (c : List ℕ) → images c → stands list c
+
+-- What a run leaves, from the list `before` that it found. `kept` is what a crash now leaves; or `full`, which has one
+-- record more at most. A crash at an earlier moment left what it might have left before the run, or a list from `before`
+-- up to `full`. `full` is legal, so all these are.
+pub record IsLeft (stands : Standing) (order : Order) (w : Scenario) (before : List UploadData) (was now since : Files)
+    (kept full : List UploadData) : Type 0 where
+  pub legal : IsLegal order w before full
+  pub least : IsPrefix before kept
+  pub front : IsPrefix kept full
+  pub one_more : length full ≤ length kept + 1
+  pub now_is : (c : List ℕ) → now c → stands kept c ⊎ stands full c
+  pub moments : (c : List ℕ) → since c → was c ⊎ IsBetween stands before full c
+  pub settled : IsSettled stands before was → (c : List ℕ) → since c → IsBetween stands before full c
+
+-- The same, said of whatever list a file stands for. A file is one that a crash might have left before the run, or stands
+-- for a legal list. From a settled disk all lists are legal; of any two, one begins with the other; and none has more than
+-- one record beyond a list that stands on the disk now.
+pub record IsLeftByFiles (stands : Standing) (order : Order) (w : Scenario) (before : List UploadData)
+    (was now since : Files) : Type 0 where
+  pub each : (c : List ℕ) → since c → was c ⊎ ((l : List UploadData) × stands l c × IsLegal order w before l)
+  pub legal : IsSettled stands before was → (c : List ℕ) (l : List UploadData) → since c → stands l c
+      → IsLegal order w before l
+  pub chain : IsSettled stands before was → (c d : List ℕ) (l m : List UploadData) → since c → since d
+      → stands l c → stands m d → IsPrefix l m ⊎ IsPrefix m l
+  pub near : IsSettled stands before was → (c d : List ℕ) (l m : List UploadData) → since c → now d
+      → stands l c → stands m d → length l ≤ length m + 1

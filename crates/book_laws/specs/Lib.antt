@@ -1,0 +1,7 @@
+pub mod Legal
+pub mod Leaving
+pub mod Keeping
+pub mod Truth
+pub mod Turns
+pub mod Laws
+pub mod Rows

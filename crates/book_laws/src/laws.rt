@@ -1,0 +1,52 @@
+//! Laws over the definitions alone, on functions with empty bodies.
+ghost use Rattle.book_laws.specs.Laws.{LawOfLegalLists, LawOfRefusals, LawOfTrueLists, LawOfStanding, LawOfTurns};
+ghost use Rattle.book_laws.specs.Laws.{LawOfCounts, LawOfFilesLeft};
+ghost use Rattle.book_laws.specs.Rows.{WorkedBooks};
+
+use lg_disk::Disk;
+
+/// The law of legal lists: each list from the one that was found up to a legal one is legal. What was found stays, what
+/// was added is brought, and no key comes twice. With all that is brought the content is the join; and where all of that
+/// was found, nothing is added (docs/DEFINITIONS.md, Runs over a book).
+pub fn legal_lists_grow()
+    ensures { LawOfLegalLists }
+{}
+
+/// The law of refusals: where an upload of a run is refused after a legal list, a brought column differs from one that was
+/// found, or the keys of both are more than a book has room for. It is never the size of a column.
+pub fn refusals_have_causes()
+    ensures { LawOfRefusals }
+{}
+
+/// The law of true lists: each column that a run adds is the one its switch froze. A list that agrees with the scenario
+/// does so after the run, and each answer of the report on it is true.
+pub fn lists_are_true()
+    ensures { LawOfTrueLists }
+{}
+
+/// A file of a book stands for at most one list under a shape, and for one in which no key stands twice.
+pub fn files_stand_for_one_list()
+    ensures { LawOfStanding }
+{}
+
+/// What a run leaves on a disk, said of each file that a crash may leave: it is legal, of any two lists one begins with the
+/// other, and none has more than one record beyond a list that stands there now.
+pub fn files_left_are_legal<D: Disk>(old: &D, new: &D)
+    ensures { LawOfFilesLeft (D.images old.now) (D.images new.now) (D.since new.now (D.moment old.now)) }
+{
+    let _ = old;
+    let _ = new;
+}
+
+/// The law of turns: the uploads of a scenario, applied one after the other, keep the list legal. Those that were applied
+/// are acknowledged. After the last one all that is brought is there. Where one is refused, the cause is that of the law of
+/// refusals. Those that were applied are all of some hosts, and the first ones of the host after them.
+pub fn turns_are_legal()
+    ensures turns { LawOfTurns }
+    ensures counts { LawOfCounts }
+{}
+
+/// Two worked runs: their uploads, the lists that they leave, and two lists that no run of them leaves.
+pub fn worked_books()
+    ensures { WorkedBooks }
+{}
