@@ -10,9 +10,12 @@ use Rattle.guardian_run.specs.declared.refusal.Refusal.{Refusal}
 use Rattle.guardian_run.specs.declared.refusal.Refusal.TheVariants as refusals
 use Rattle.guardian_run.specs.declared.status.Status.{Status}
 use Rattle.guardian_run.specs.declared.status.Status.TheVariants as status
-use Rattle.guardian_run.specs.Changes.{Change, IsUntouched, DiskChange}
+use Rattle.guardian_run.specs.Changes.{Change, HasFailed, IsUntouched, DiskChange, DiskHasFailed}
 use Rattle.guardian_run.specs.Refusals.{status_of, fault_line}
-use Rattle.guardian_run.specs.Outcomes.{Outcome, Comes, WithScenario, reads_text, looks_at_file}
+use Rattle.column_book.specs.Entries.{content_in}
+use Rattle.run_laws.specs.Truth.{IsTrueRun}
+use Rattle.run_laws.proofs.Agreeing.{true_book}
+use Rattle.guardian_run.specs.Outcomes.{Outcome, Runs, Captures, Lists, Rebuilds, Comes, WithScenario, reads_text, looks_at_file}
 use Rattle.guardian_run.specs.Giving.{IsUnread, GivesOfText, IsUnlooked, GivesOfFile, IsFree, IsTrueFile, IsTrueOutput, Draws, Gives}
 use Rattle.report_text.specs.Faults.{usage_line, read_fault_line, disk_fault_line, no_memory_line}
 use Rattle.guardian_run.specs.Ends.{IsOutputEnd, IsStatusOf, IsAnswered, Puts, Ends}
@@ -198,7 +201,7 @@ at_no_memory command said file source sink disk s at = record {
 }
 
 at_read_fault : (command : Command) (said : Result Scenario Fault) (file : List ℕ) (source sink : Change) (disk : DiskChange) (s : Status) →
-    s ≡ status.ReadFault → (reads_text (Some command) ≡ true) × Rattle.guardian_run.specs.Changes.HasFailed source →
+    s ≡ status.ReadFault → (reads_text (Some command) ≡ true) × HasFailed source →
     IsAnswered (Some command) said file source sink disk s read_fault_line
 at_read_fault command said file source sink disk s at cause = record {
   words = ((λ e. cc), (λ e. cc));
@@ -211,7 +214,7 @@ at_read_fault command said file source sink disk s at cause = record {
 }
 
 at_disk_fault : (command : Command) (said : Result Scenario Fault) (file : List ℕ) (source sink : Change) (disk : DiskChange) (s : Status) →
-    s ≡ status.DiskFault → (looks_at_file (Some command) ≡ true) × Rattle.guardian_run.specs.Changes.DiskHasFailed disk →
+    s ≡ status.DiskFault → (looks_at_file (Some command) ≡ true) × DiskHasFailed disk →
     IsAnswered (Some command) said file source sink disk s disk_fault_line
 at_disk_fault command said file source sink disk s at cause = record {
   words = ((λ e. cc), (λ e. cc));
@@ -262,9 +265,6 @@ ended command source sink disk s r line gives at far answers puts = record {
   truth = λ output. absurd (far output);
 }
 
-moved : (s at : Status) (sink : Change) (line : List ℕ) → s ≡ at → Puts at sink line → Puts s sink line
-moved s at sink line is puts = subst (λ t. Puts t sink line) (sym is) puts
-
 not_memory : (s : Status) → s ≡ status.NoMemory → IsOutputEnd s → ⊥
 not_memory s at (inl h) = absurd (cc (sym at ∙ h))
 not_memory s at (inr h) = absurd (cc (sym at ∙ h))
@@ -279,7 +279,7 @@ starved : (command : Command) (source sink : Change) (disk : DiskChange) (s : St
     EndsWithLine status.NoMemory no_memory_line sink s → Ends (Some command) source sink disk s
 starved command source sink disk s r gives end =
     ended command source sink disk s r no_memory_line gives (inr end.0) (not_memory s end.0)
-    (at_no_memory command gives.said gives.file source sink disk s end.0) (moved s status.NoMemory sink no_memory_line end.0 end.1)
+    (at_no_memory command gives.said gives.file source sink disk s end.0) end.1
 
 -- the same refusal under another name
 renamed : (r q : Refusal) (sink : Change) (s : Status) → r ≡ q → EndsRefused r sink s → EndsRefused q sink s
@@ -289,18 +289,18 @@ pub ends_refused : (command : Command) (source sink : Change) (disk : DiskChange
     EndsRefused r sink s → Ends (Some command) source sink disk s
 ends_refused command source sink disk s r gives end = by gives.is
   where
-    read : (reads_text (Some command) ≡ true) × Rattle.guardian_run.specs.Changes.HasFailed source → EndsRefused refusals.ReadFault sink s → r ≡ refusals.ReadFault →
+    read : (reads_text (Some command) ≡ true) × HasFailed source → EndsRefused refusals.ReadFault sink s → r ≡ refusals.ReadFault →
         Ends (Some command) source sink disk s
     read cause (inl e) is =
         ended command source sink disk s r read_fault_line gives (inl (e.0 ∙ ap status_of (sym is))) (not_fault s (inl e.0))
-        (at_read_fault command gives.said gives.file source sink disk s e.0 cause) (moved s status.ReadFault sink read_fault_line e.0 e.1)
+        (at_read_fault command gives.said gives.file source sink disk s e.0 cause) e.1
     read cause (inr e) is = absurd e.0
 
-    device : (looks_at_file (Some command) ≡ true) × Rattle.guardian_run.specs.Changes.DiskHasFailed disk → EndsRefused refusals.DiskFault sink s →
+    device : (looks_at_file (Some command) ≡ true) × DiskHasFailed disk → EndsRefused refusals.DiskFault sink s →
         r ≡ refusals.DiskFault → Ends (Some command) source sink disk s
     device cause (inl e) is =
         ended command source sink disk s r disk_fault_line gives (inl (e.0 ∙ ap status_of (sym is))) (not_fault s (inr e.0))
-        (at_disk_fault command gives.said gives.file source sink disk s e.0 cause) (moved s status.DiskFault sink disk_fault_line e.0 e.1)
+        (at_disk_fault command gives.said gives.file source sink disk s e.0 cause) e.1
     device cause (inr e) is = absurd e.0
 
     memory : EndsRefused refusals.Memory sink s → Ends (Some command) source sink disk s
@@ -311,12 +311,12 @@ ends_refused command source sink disk s r gives end = by gives.is
     proper_end comes (inl e) =
         let far = other r (proper command gives.said gives.file r comes) in
         ended command source sink disk s r (fault_line r) gives (inl e.0) (λ o. far.output (subst IsOutputEnd e.0 o))
-        (at_refusal command gives.said gives.file source sink disk s r comes e.0) (moved s (status_of r) sink (fault_line r) e.0 e.1)
+        (at_refusal command gives.said gives.file source sink disk s r comes e.0) e.1
     proper_end comes (inr e) = starved command source sink disk s r gives e.1
 
     by : IsFree (Some command) source disk (Err r) ⊎ Comes (Some command) gives.said gives.file (Err r) → Ends (Some command) source sink disk s
-    by (inl (inl h)) = let is = one_refusal r refusals.ReadFault h.0 in read h.1 (renamed r refusals.ReadFault sink s is end) is
-    by (inl (inr (inl h))) = let is = one_refusal r refusals.DiskFault h.0 in device h.1 (renamed r refusals.DiskFault sink s is end) is
+    by (inl (inl h)) = let is = one_refusal r refusals.ReadFault h.0 in read (h.1, h.2) (renamed r refusals.ReadFault sink s is end) is
+    by (inl (inr (inl h))) = let is = one_refusal r refusals.DiskFault h.0 in device (h.1, h.2) (renamed r refusals.DiskFault sink s is end) is
     by (inl (inr (inr h))) = memory (renamed r refusals.Memory sink s (one_refusal r refusals.Memory h) end)
     by (inr comes) = proper_end comes end
 
@@ -350,7 +350,7 @@ pub ends_unread : (asked : Option Command) (source sink : Change) (disk : DiskCh
 ends_unread asked source sink disk s none left same calm end = subst (λ a. Ends a source sink disk s) (sym none) (by end)
   where
     by : EndsRefused refusals.BadWords sink s → Ends None source sink disk s
-    by (inl e) = subst (λ t. Ends None source sink disk t) (sym e.0) (at_bad_words source sink disk left same calm e.1)
+    by (inl e) = subst (λ t. Ends None source sink disk t) (sym e.0) (at_bad_words source sink disk left same calm (subst (λ t. Puts t sink usage_line) e.0 e.1))
     by (inr e) = absurd e.0
 
 -- ---- what a command gave
@@ -366,7 +366,7 @@ short_text source o (inr h) = inr h
 
 pub given_text : (command : Command) (next : Scenario → Outcome → Type 0) (source : Change) (disk : DiskChange) (o : Outcome) → reads_text (Some command) ≡ true →
     ((said : Result Scenario Fault) → WithScenario next said o → Comes (Some command) said disk.seen o) →
-    ((said : Result Scenario Fault) → IfOk said Rattle.run_laws.specs.Truth.IsTrueRun → IsTrueOutput (Some command) said disk.seen) →
+    ((said : Result Scenario Fault) → IfOk said IsTrueRun → IsTrueOutput (Some command) said disk.seen) →
     disk.faults_old ≤ disk.faults_new → GivesOfText next source o → Gives (Some command) source disk o
 given_text command next source disk o reads comes true_of calm gives = record {
   said = gives.said;
@@ -434,3 +434,34 @@ pub both_given : {T : Type 0} → (items : T → List ℕ) (given : Result T Ref
     IfOk given (λ text. Q (Ok (items text))) × IfErr given (λ r. Q (Err r))
 both_given items (Ok text) P Q move has is = (move (Ok (items text)) has, tt)
 both_given items (Err r) P Q move has is = (tt, move (Err r) is)
+
+-- the same of a command that needs one thing alone
+pub ends_by : {T : Type 0} →
+    (items : T → List ℕ) (asked : Option Command) (command : Command) (source sink : Change) (disk : DiskChange) (s : Status) (given : Result T Refusal) (P : Outcome → Type 0) →
+    asked ≡ Some command → ((o : Outcome) → P o → Gives (Some command) source disk o) →
+    IfOk given (λ text. P (Ok (items text))) → IfErr given (λ r. P (Err r)) →
+    IfOk given (λ text. EndsWith (items text) sink s) → IfErr given (λ r. EndsRefused r sink s) → Ends asked source sink disk s
+ends_by items asked command source sink disk s given P same move has is done end =
+    let both = both_given items given P (Gives (Some command) source disk) move has is in
+    ends_given items asked command source sink disk s given same both.0 both.1 done end
+
+true_file : (file : List ℕ) → IsTrueFile file
+true_file file w rs whole stands agrees = true_book w (content_in rs) whole agrees
+
+pub gives_run : (source : Change) (disk : DiskChange) (o : Outcome) → disk.faults_old ≤ disk.faults_new → GivesOfText Runs source o →
+    Gives (Some commands.Run) source disk o
+gives_run source disk o calm gives = given_text commands.Run Runs source disk o refl (λ said is. is) (λ said is. is) calm gives
+
+pub gives_capture : (source : Change) (disk : DiskChange) (o : Outcome) → disk.faults_old ≤ disk.faults_new → GivesOfText Captures source o →
+    Gives (Some commands.Capture) source disk o
+gives_capture source disk o calm gives = given_text commands.Capture Captures source disk o refl (λ said is. is) (λ said is. is) calm gives
+
+pub gives_list : (source : Change) (disk : DiskChange) (o : Outcome) → IsUntouched source → source.faults_old ≤ source.faults_new → GivesOfFile Lists disk o →
+    Gives (Some commands.List) source disk o
+gives_list source disk o left same gives =
+    given_file commands.List Lists source disk o refl refl (λ said file is. is) (λ said file. true_file file) left same gives
+
+pub gives_rebuild : (s e : ℕ) (source : Change) (disk : DiskChange) (o : Outcome) → IsUntouched source → source.faults_old ≤ source.faults_new →
+    GivesOfFile (Rebuilds s e) disk o → Gives (Some (commands.Rebuild s e)) source disk o
+gives_rebuild s e source disk o left same gives =
+    given_file (commands.Rebuild s e) (Rebuilds s e) source disk o refl refl (λ said file is. is) (λ said file. true_file file) left same gives

@@ -1,7 +1,8 @@
 -- What a command gives at each of its exits.
-use Rattle.std.specs.Prelude.{◌≡◌, ◌⊎◌, ℕ, ◌<◌, ◌≤◌, List, Option, Some, None, IfSome, IfOk, IfErr, IsOk, Result, Ok, Err}
+use Rattle.std.specs.Prelude.{◌≡◌, ◌⊎◌, ℕ, ◌<◌, ◌≤◌, List, [], Option, Some, None, IfSome, IfOk, IfErr, IsOk, Result, Ok, Err}
 use Rattle.std.proofs.Common.{refl, sym, ap, ◌∙◌, subst, arith, inl, inr}
 use Rattle.lg_base.specs.Causes.{Rose}
+use Rattle.lg_model.specs.declared.scenario.Hash.TheVariants as hashes
 use Rattle.lg_model.specs.Placing.{Shape}
 use Rattle.lg_model.specs.Scenario.{Scenario}
 use Rattle.lg_model.specs.Columns.{dims_of}
@@ -20,7 +21,7 @@ use Rattle.flow_query.specs.Rebuilt.{IsRebuilt}
 use Rattle.book_file.specs.declared.found.OpenFault.{OpenFault}
 use Rattle.book_file.specs.declared.found.OpenFault.TheVariants as file
 use Rattle.book_file.specs.File.{IsBlank, StandsFor}
-use Rattle.book_file.specs.Found.{Finds}
+use Rattle.book_file.specs.Found.{Finds, count_of}
 use Rattle.book_journal.specs.Looking.{HasFound, Looks, FaultRose}
 use Rattle.run_laws.specs.Truth.{book_of, IsTrueRun, LawOfTrueBooks}
 use Rattle.run_laws.specs.Booking.{booked}
@@ -31,11 +32,15 @@ use Rattle.guardian_run.specs.declared.refusal.Refusal.TheVariants as refusals
 use Rattle.guardian_run.specs.Changes.{Change, HasFailed, DiskChange, DiskHasFailed}
 use Rattle.guardian_run.specs.Booking.{IsRefusalOf}
 use Rattle.guardian_run.specs.Refusals.{refusal_of, file_refusal}
-use Rattle.guardian_run.specs.Outputs.{list_of, sketch_of}
-use Rattle.guardian_run.specs.Outcomes.{Outcome, Runs, HasRecords, HasFault, Asks, Lists, Rebuilds, IsUnbuilt, Comes, reads_text}
+use Rattle.guardian_run.specs.Outputs.{capture_of, list_of, sketch_of}
+use Rattle.guardian_run.specs.Outcomes.{Outcome, Runs, Captures, HasRecords, HasFault, Asks, Lists, Rebuilds, IsUnbuilt, Comes, reads_text}
 use Rattle.guardian_run.specs.Looking.{IsHeld, IsBookOf, IsFileRefusal, IsUnbuiltOf}
-use Rattle.guardian_run.specs.Giving.{IsUnread, GivesOfText, IsUnlooked, GivesOfFile, IsTrueFile, Gives}
+use Rattle.guardian_run.specs.Giving.{IsFree, IsUnread, GivesOfText, IsUnlooked, GivesOfFile, IsTrueFile, Gives}
 use Rattle.guardian_run.proofs.EndLemmas.{said_by, said_is}
+
+-- what a `?` hands on
+pub err_gives : {T : Type 0} → (r : Result T Refusal) (y refusal : Refusal) (P : Refusal → Type 0) → r ≡ Err y → y ≡ refusal → P refusal → IfErr r P
+err_gives {T} r y refusal P is same holds = subst (λ (x : Result T Refusal). IfErr x P) (sym is) (subst P (sym same) holds)
 
 -- ---- the source
 
@@ -109,6 +114,9 @@ run_refused source w (refusals.Damaged at) is says took whole calm = absurd is
 run_refused source w (refusals.Missing s e known width) is says took whole calm = absurd is
 run_refused source w refusals.Blank is says took whole calm = absurd is
 
+pub captured : (w : Scenario) (text : List ℕ) → text ≡ capture_of w → Captures w (Ok text)
+captured w text is = ap (λ (t : List ℕ). Ok t) is
+
 pub booked_fine : (w : Scenario) (es : List Entry) → booked w ≡ Ok es → IsOk (booked w)
 booked_fine w es is = subst IsOk (sym is) refl
 
@@ -151,7 +159,7 @@ no_records_under disk shape b found none = record {
   held = found.held;
   is = record {
     stands = inl (found.is, none);
-    few = subst (λ (rs : List UploadData). Rattle.book_file.specs.Found.count_of rs ≤ ROOM) (sym none) (omega arith);
+    few = subst (λ (rs : List UploadData). count_of rs ≤ ROOM) (sym none) (omega arith);
   };
 }
 
@@ -258,7 +266,7 @@ listing_of disk b text found is calm = record {
 }
 
 some_shape : Shape
-some_shape = record { rows = 1; width = 1; hash = Rattle.lg_model.specs.declared.scenario.Hash.TheVariants.Ports }
+some_shape = record { rows = 1; width = 1; hash = hashes.Ports }
 
 pub blank_listing : (disk : DiskChange) (text : List ℕ) → IsHeld disk (IsBookOf None) → text ≡ columns_line 0 →
     disk.faults_old ≤ disk.faults_new → GivesOfFile Lists disk (Ok text)
@@ -282,8 +290,8 @@ ask_unread source disk o calm gives never = record {
   file = disk.seen;
   input = gives.input;
   held = λ _. refl;
-  is = elim gives.is as (λ _. Rattle.guardian_run.specs.Giving.IsFree (Some commands.Ask) source disk o ⊎ Comes (Some commands.Ask) gives.said disk.seen o) [
-    | inl h ↦ inl (elim h as (λ _. Rattle.guardian_run.specs.Giving.IsFree (Some commands.Ask) source disk o) [ inl x ↦ inl (x.0, refl, x.1) | inr x ↦ inr (inr x) ])
+  is = elim gives.is as (λ _. IsFree (Some commands.Ask) source disk o ⊎ Comes (Some commands.Ask) gives.said disk.seen o) [
+    | inl h ↦ inl (elim h as (λ _. IsFree (Some commands.Ask) source disk o) [ inl x ↦ inl (x.0, refl, x.1) | inr x ↦ inr (inr x) ])
     | inr h ↦ inr h
   ];
   draws = record {
@@ -299,36 +307,36 @@ ask_unread source disk o calm gives never = record {
 }
 
 -- the scenario is there, and the book
-pub ask_answered : (source : Change) (disk : DiskChange) (w : Scenario) (rs : List UploadData) (text : List ℕ) → LawOfTrueBooks →
+pub ask_answered : (source : Change) (disk : DiskChange) (w : Scenario) (shape : Shape) (rs : List UploadData) (text : List ℕ) → shape ≡ w.shape → LawOfTrueBooks →
     IfSome source.old (λ input. reading input ≡ Ok w) → IfSome source.old (λ input. IsTaken input source.new) → IsWhole w →
-    IsHeld disk (λ file. HasRecords file w.shape rs) → text ≡ report (content_in rs) w →
+    IsHeld disk (λ file. HasRecords file shape rs) → text ≡ report (content_in rs) w →
     source.faults_old ≤ source.faults_new → disk.faults_old ≤ disk.faults_new → Gives (Some commands.Ask) source disk (Ok text)
-ask_answered source disk w rs text law says took whole found is calm still = record {
+ask_answered source disk w shape rs text same law says took whole found is calm still = record {
   said = Ok w;
   file = found.file;
   input = says;
   held = found.held;
-  is = inr (whole, record { rs = rs; has = found.is; is = is });
+  is = inr (whole, record { rs = rs; has = subst (λ (x : Shape). HasRecords found.file x rs) same found.is; is = is });
   draws = record { unread = λ e. cc; took = λ _. inr took; never_falls = calm };
   disk_never_falls = still;
   truth = λ _. true_file law found.file;
 }
 
 -- the scenario is there, and no book
-pub ask_refused : (source : Change) (disk : DiskChange) (w : Scenario) (r : Refusal) →
+pub ask_refused : (source : Change) (disk : DiskChange) (w : Scenario) (shape : Shape) (r : Refusal) → shape ≡ w.shape →
     IfSome source.old (λ input. reading input ≡ Ok w) → IfSome source.old (λ input. IsTaken input source.new) → IsWhole w →
-    IsHeld disk (IsFileRefusal (Some w.shape) disk r) →
+    IsHeld disk (IsFileRefusal (Some shape) disk r) →
     source.faults_old ≤ source.faults_new → disk.faults_old ≤ disk.faults_new → Gives (Some commands.Ask) source disk (Err r)
-ask_refused source disk w r says took whole found calm still = record {
+ask_refused source disk w shape r same says took whole found calm still = record {
   said = Ok w;
   file = found.file;
   input = says;
   held = found.held;
-  is = elim found.is as (λ _. Rattle.guardian_run.specs.Giving.IsFree (Some commands.Ask) source disk (Err r) ⊎ Comes (Some commands.Ask) (Ok w) found.file (Err r)) [
+  is = elim found.is as (λ _. IsFree (Some commands.Ask) source disk (Err r) ⊎ Comes (Some commands.Ask) (Ok w) found.file (Err r)) [
     | inl h ↦ inl (inr (inl (ap (λ (x : Refusal). Err x) h.0, refl, h.1)))
-    | inr h ↦ elim h as (λ _. Rattle.guardian_run.specs.Giving.IsFree (Some commands.Ask) source disk (Err r) ⊎ Comes (Some commands.Ask) (Ok w) found.file (Err r)) [
+    | inr h ↦ elim h as (λ _. IsFree (Some commands.Ask) source disk (Err r) ⊎ Comes (Some commands.Ask) (Ok w) found.file (Err r)) [
       | inl x ↦ inl (inr (inr (ap (λ (y : Refusal). Err y) x)))
-      | inr x ↦ inr (whole, x)
+      | inr x ↦ inr (whole, subst (λ (y : Shape). HasFault (Some y) found.file r) same x)
     ]
   ];
   draws = record { unread = λ e. cc; took = λ _. inr took; never_falls = calm };

@@ -38,7 +38,7 @@ pub packed_short : (ps : List Packed) (cs : List Column) → Matched IsPacked ps
 packed_short ps cs all = λ i d inside. (matched_at IsPacked ps cs i d no_column all inside).short
 
 -- one host more
-range_more : (n : ℕ) → range_with_len 0 (n + 1) ≡ range_with_len 0 n ++ n ∷ []
+pub range_more : (n : ℕ) → range_with_len 0 (n + 1) ≡ range_with_len 0 n ++ n ∷ []
 range_more n = sym (same 0 (n + 1)) ∙ map-range_with_len_more (λ (k : ℕ). k) 0 n n (zero-add n) ∙ ap (λ xs. xs ++ n ∷ []) (same 0 n)
   where
     same : (a n : ℕ) → map (λ (k : ℕ). k) (range_with_len a n) ≡ range_with_len a n

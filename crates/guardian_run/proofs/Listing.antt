@@ -1,10 +1,11 @@
 -- The keys of a content one after the other, and its lines.
 use Rattle.std.specs.Prelude.{◌≡◌, ◌≢◌, ℕ, zero, suc, ◌+◌, ◌<◌, Bool, true, false, cond, List, [], ◌∷◌, ◌++◌, length, take, Option, None, Some, IsSome, slice_index_or}
-use Rattle.std.specs.List.{flat_map}
+use Rattle.std.specs.List.{flat_map, range_with_len}
+use Rattle.std.specs.Option.{option_map}
 use Rattle.std.specs.Ordering.{is_eq, is_lt, ordering_reverse}
 use Rattle.std.specs.declared.cmp.Ordering.{Ordering}
 use Rattle.std.specs.declared.cmp.Ordering.TheVariants.{Less, Equal, Greater}
-use Rattle.std.proofs.Common.{refl, sym, ap, ◌∙◌, subst, arith, inl, inr, take_all, append-nil}
+use Rattle.std.proofs.Common.{refl, sym, ap, ◌∙◌, subst, arith, inl, inr, take_all, append-nil, append_assoc}
 use Rattle.std.proofs.lemmas.Bool.{cases_lt}
 use Rattle.std.proofs.lemmas.Grind.{flat_map-append}
 use Rattle.lg_model.specs.declared.column.Key.{Key}
@@ -18,9 +19,15 @@ use Rattle.column_book.specs.Entries.{content, columns_of}
 use Rattle.column_book.specs.Applying.{column_with}
 use Rattle.column_book.specs.Order.{comes_after, IsNext}
 use Rattle.column_book.proofs.Joins.{keys_total, in_order}
-use Rattle.run_laws.proofs.Found.{one_key, same_key}
+use Rattle.run_laws.proofs.Found.{same_key}
+use Rattle.column_book.proofs.Keys.{one_key as told_one, is_at_key}
 use Rattle.report_text.specs.Columns.{column_line}
-use Rattle.guardian_run.specs.Outputs.{pair_line, list_of}
+use Rattle.guardian_run.specs.Outputs.{pair_line}
+use Rattle.guardian_run.proofs.Keeping.{range_more}
+
+-- keys that compare as equal are one
+one_key : (a b : Key) → key_cmp a b ≡ Equal → a ≡ b
+one_key a b h = told_one a b (sym (is_at_key a b) ∙ ap is_eq h)
 
 -- the pair at a position
 abbrev pub no_pair : Key × Cells
@@ -30,7 +37,7 @@ abbrev pub pair_at : Content → ℕ → Key × Cells
 pair_at m i = slice_index_or m i no_pair
 
 -- the key before a position, if there is one
-pub key_before : Content → ℕ → Option Key
+abbrev pub key_before : Content → ℕ → Option Key
 key_before m zero = None
 key_before m (suc i) = Some (pair_at m i).0
 
@@ -122,6 +129,33 @@ next_at m i (Some k) o inside next =
       ]
     ]
 
+-- ---- the column of the next key
+
+abbrev some_key : Key → Option Key
+some_key k = Some k
+
+one_some : (k q : Key) → some_key k ≡ some_key q → k ≡ q
+one_some k q is = cc
+
+pub key_is : (m : Content) (i : ℕ) (r : Option Key) (k : Key) → r ≡ Some (pair_at m i).0 → r ≡ Some k → k ≡ (pair_at m i).0
+key_is m i r k is same = one_some k (pair_at m i).0 (sym same ∙ is)
+
+abbrev some_column : Column → Option Column
+some_column c = Some c
+
+one_column : (a b : Column) → some_column a ≡ some_column b → a ≡ b
+one_column a b is = cc
+
+pub column_is : (dims : Dims) (m : Content) (i : ℕ) (k : Key) (r : Option Column) (c : Column) → InOrder key_cmp m → i < length m → k ≡ (pair_at m i).0 →
+    r ≡ option_map (column_with k dims) (found m k) → r ≡ Some c → c ≡ column_with (pair_at m i).0 dims (pair_at m i).1
+column_is dims m i k r c o inside here value is =
+    one_column c (column_with (pair_at m i).0 dims (pair_at m i).1)
+    (sym is ∙ value ∙ ap (λ (q : Key). option_map (column_with q dims) (found m q)) here
+    ∙ ap (option_map (column_with (pair_at m i).0 dims)) (found_at m i o inside))
+
+pub key_more : (m : Content) (i : ℕ) (k : Key) → k ≡ (pair_at m i).0 → Some k ≡ key_before m (i + 1)
+key_more m i k is = let one : suc i ≡ i + 1 = omega arith in subst (λ n. some_key k ≡ key_before m n) one (ap some_key is)
+
 -- ---- its lines
 
 pub line_more : (dims : Dims) (m : Content) (i : ℕ) (c : Column) (old new : List ℕ) → i < length m → old ≡ flat_map (pair_line dims) (take i m) →
@@ -130,6 +164,17 @@ line_more dims m i c old new inside before is put =
     put ∙ (λ j. before j ++ column_line (is j))
     ∙ ap (λ xs. flat_map (pair_line dims) (take i m) ++ xs) (sym (append-nil (pair_line dims (pair_at m i))))
     ∙ sym (ap (flat_map (pair_line dims)) (take_more m i no_pair inside) ∙ flat_map-append (pair_line dims) (take i m) (pair_at m i ∷ []))
+
+-- the rows of a sketch, one more
+pub row_more : {X : Type 0} (f : ℕ → List X) (n : ℕ) → flat_map f (range_with_len 0 (n + 1)) ≡ flat_map f (range_with_len 0 n) ++ f n
+row_more f n =
+    ap (flat_map f) (range_more n) ∙ flat_map-append f (range_with_len 0 n) (n ∷ [])
+    ∙ ap (λ xs. flat_map f (range_with_len 0 n) ++ xs) (append-nil (f n))
+
+pub rows_more : {X : Type 0} (f : ℕ → List X) (n : ℕ) (head old new : List X) → old ≡ head ++ flat_map f (range_with_len 0 n) → new ≡ old ++ f n →
+    new ≡ head ++ flat_map f (range_with_len 0 (n + 1))
+rows_more f n head old new before put =
+    put ∙ ap (λ xs. xs ++ f n) before ∙ append_assoc head (flat_map f (range_with_len 0 n)) (f n) ∙ ap (λ xs. head ++ xs) (sym (row_more f n))
 
 pub all_lines : (dims : Dims) (m : Content) (i : ℕ) (text : List ℕ) → i ≡ length m → text ≡ flat_map (pair_line dims) (take i m) → text ≡ flat_map (pair_line dims) m
 all_lines dims m i text end is = is ∙ ap (flat_map (pair_line dims)) (take_all i m (omega (arith, end)))

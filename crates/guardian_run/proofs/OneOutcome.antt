@@ -176,18 +176,21 @@ never_built s e file text r this (faulty f that) = no_fault None file this.shape
 
 -- ---- command by command
 
+abbrev unbooked : BookFault → Result (List Entry) BookFault
+unbooked f = Err f
+
+booked_both : (r : Result (List Entry) BookFault) (held more : ℕ) → IsOk r → r ≡ Err (book.Full held more) → ⊥
+booked_both (Ok es) held more fine is = absurd (cc is)
+booked_both (Err f) held more fine is = absurd (cc fine)
+
 one_run : (w : Scenario) (a b : Outcome) → Runs w a → Runs w b → a ≡ b
 one_run w (Ok x) (Ok y) this that = ap (λ (t : List ℕ). Ok t) (this.1 ∙ sym that.1)
 one_run w (Ok x) (Err q) this that = absurd (booked_both (booked w) that.0 that.1 this.0 that.2)
-  where
-    booked_both : (r : Result (List Entry) BookFault) (held more : ℕ) → IsOk r → r ≡ Err (book.Full held more) → ⊥
-    booked_both (Ok es) held more fine is = absurd (cc is)
-    booked_both (Err f) held more fine is = absurd (cc fine)
-one_run w (Err r) (Ok y) this that = sym (one_run w (Ok y) (Err r) that this)
+one_run w (Err r) (Ok y) this that = absurd (booked_both (booked w) this.0 this.1 that.0 this.2)
 one_run w (Err r) (Err q) this that =
     ap (λ (x : Refusal). Err x) (this.3 ∙ same_counts this.0 this.1 that.0 that.1 (sym this.2 ∙ that.2) ∙ sym that.3)
   where
-    same_counts : (h m k n : ℕ) → Err {A = List Entry} (book.Full h m) ≡ Err (book.Full k n) → refusals.Full h m ≡ refusals.Full k n
+    same_counts : (h m k n : ℕ) → unbooked (book.Full h m) ≡ unbooked (book.Full k n) → refusals.Full h m ≡ refusals.Full k n
     same_counts h m k n is = cc
 
 one_ask : (file : List ℕ) (w : Scenario) (a b : Outcome) → Asks file w a → Asks file w b → a ≡ b

@@ -3,7 +3,7 @@ ghost use Rattle.std.specs.Prelude.{◌≡◌, ◌≤◌, IfOk, IfErr};
 ghost use Rattle.guardian_run.specs.Changes.{change, WritesSome};
 ghost use Rattle.report_text.specs.Faults.{no_memory_line as no_memory};
 ghost use Rattle.guardian_run.specs.declared.status.Status.TheVariants.{NoMemory};
-ghost use Rattle.guardian_run.specs.Ending.{EndsWith, EndsWithLine, EndsRefused};
+ghost use Rattle.guardian_run.specs.Ending.{EndsWith, EndsRefused};
 
 use crate::refusal::Refusal;
 use crate::status::Status;
@@ -37,8 +37,9 @@ fn put_fault<K: Sink>(sink: &mut K, line: &[u8], status: Status) -> Status
 // Writes a fault line that takes memory and answers its status, or the line and status of want of memory where there was
 // none for it.
 fn put_made<K: Sink>(sink: &mut K, line: Result<Vec<u8>, Memory>, status: Status) -> Status
-    ensures made { IfOk line (λ text. EndsWithLine status text.items (change K.written K.faults sink.old sink.new) result) }
-    ensures starved { IfErr line (λ _. EndsWithLine NoMemory no_memory (change K.written K.faults sink.old sink.new) result) }
+    ensures made { IfOk line (λ text. (result ≡ status) × WritesSome (change K.written K.faults sink.old sink.new) text.items) }
+    ensures starved { IfErr line (λ _. (result ≡ NoMemory) × WritesSome (change K.written K.faults sink.old sink.new) no_memory) }
+    ensures never_falls { K.faults sink.old ≤ K.faults sink.new }
 {
     match line {
         Ok(text) => put_fault(sink, &text, status),

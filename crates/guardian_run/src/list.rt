@@ -55,9 +55,10 @@ pub fn list<D: Disk>(alloc: Global, disk: &mut D) -> Result<Vec<u8>, Refusal>
     ensures refused { IfErr result (λ refusal. GivesOfFile Lists (disk_change D.honest D.seen D.faults disk.old disk.new) (Err refusal)) }
     ensures reads { OnlyReads D.honest D.seen D.images D.moment D.since disk.old disk.new }
 {
-    let text = match book_on(alloc, disk, None)? {
-        Some(book) => list_lines(alloc, &book)?,
-        None => no_lines(alloc)?,
+    let Some(book) = book_on(alloc, disk, None)? else {
+        let text = no_lines(alloc)?;
+        return Ok(text);
     };
+    let text = list_lines(alloc, &book)?;
     Ok(text)
 }

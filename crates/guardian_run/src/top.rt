@@ -1,5 +1,7 @@
 //! The top calls.
-ghost use Rattle.std.specs.Prelude.{◌≡◌};
+ghost use Rattle.std.specs.Prelude.{◌≡◌, Some};
+ghost use Rattle.std.specs.Bool.{MatchBool};
+ghost use Rattle.guardian_words.specs.declared.commands.Command.TheVariants.{Run};
 ghost use Rattle.guardian_words.specs.Words.{asked};
 ghost use Rattle.book_journal.specs.Crashes.{OnlyReads};
 ghost use Rattle.guardian_run.specs.Changes.{change, disk_change};
@@ -52,6 +54,20 @@ pub fn guardian_read<S: Source, K: Sink, D: Disk>(
     }
 }
 
+// Whether a command may write to the disk.
+fn is_run(command: Option<Command>) -> bool
+    ensures { MatchBool result (command ≡ Some Run) (reading_command command ≡ command) }
+{
+    match command {
+        Some(Command::Run) => true,
+        Some(Command::Ask) => false,
+        Some(Command::List) => false,
+        Some(Command::Rebuild { .. }) => false,
+        Some(Command::Capture) => false,
+        None => false,
+    }
+}
+
 /// Does what the words say: `run` reads a scenario from the source, runs its network and writes the report into the sink;
 /// `ask` reads a scenario and writes the report on the book of the disk's file, `list` all columns of that book, and
 /// `rebuild` a sketch of them; `capture` writes the sketchlets that came to the hosts. How it ends is the record `Ends`
@@ -79,9 +95,10 @@ pub fn guardian<S: Source, K: Sink, D: Disk>(
         (change K.written K.faults sink.old sink.new) (disk_change D.honest D.seen D.faults disk result.1) result.0 }
     ensures reads { OnlyReads D.honest D.seen D.images D.moment D.since disk result.1 }
 {
-    let status = match command(words) {
-        Some(Command::Run) => end(alloc, run(alloc, source), sink),
-        _ => guardian_read(alloc, words, source, sink, &mut disk),
-    };
+    if is_run(command(words)) {
+        let status = end(alloc, run(alloc, source), sink);
+        return (status, disk);
+    }
+    let status = guardian_read(alloc, words, source, sink, &mut disk);
     (status, disk)
 }

@@ -1,22 +1,15 @@
-use Rattle.std.proofs.Common.{Some, refl, sym, ap, ◌∙◌, rules}
-use Rattle.guardian_words.specs.declared.commands.Command.TheVariants.{Run, Capture}
-use Rattle.guardian_run.proofs.EndLemmas.{ends_given, ends_unread}
+use Rattle.std.proofs.Common.{sym, ◌∙◌, arith}
+use Rattle.guardian_words.specs.declared.commands.Command.TheVariants.{Run}
+use Rattle.guardian_run.specs.Changes.{change, disk_change}
+use Rattle.guardian_run.specs.Outcomes.{Runs}
+use Rattle.guardian_run.specs.Giving.{GivesOfText}
+use Rattle.guardian_run.proofs.EndLemmas.{ends_by, gives_run}
 use Rattle.guardian_run.proofs.top.guardian.Goals as goal
 
-pub returns-in-Some-Run : goal.returns-in-Some-Run
-returns-in-Some-Run g c =
-    let same = sym c.command.ensures ∙ c.in-Some-Run.is ∙ ap Some c.in-Some-Run.field-0-is in
-    ends_given (λ text. text.items) _ Run _ _ c.end.result c.run.result same
-    c.run.ensures.output c.run.ensures.refused c.end.ensures.output c.end.ensures.refused
-
-pub returns-in-Some-Capture : goal.returns-in-Some-Capture
-returns-in-Some-Capture g c =
-    let same = sym c.command.ensures ∙ c.in-Some-Capture.is ∙ ap Some c.in-Some-Capture.field-0-is in
-    let end = c.end-in-Some-Capture in
-    ends_given (λ text. text.items) _ Capture _ _ end.result c.capture.result same
-    c.capture.ensures.output c.capture.ensures.refused end.ensures.output end.ensures.refused
-
-pub returns-in-None : goal.returns-in-None
-returns-in-None g c =
-    let end = c.end-in-None in
-    ends_unread _ _ _ end.result (sym c.command.ensures ∙ c.in-None.is) (record { bytes = refl; faults = refl }) (search rules) end.ensures.refused
+pub returns-then-is_run-clause-ends : goal.returns-then-is_run-clause-ends
+returns-then-is_run-clause-ends g c =
+    let disk = disk_change g.D.Disk.honest g.D.Disk.seen g.D.Disk.faults c.args.disk c.args.disk in
+    let source = change g.S.Source.left g.S.Source.faults c.args.source.now c.run.new.source in
+    ends_by (λ text. text.items) _ Run source _ disk c.end-status.result c.run.result (GivesOfText Runs source)
+    (sym c.command.ensures ∙ c.if-is_run.ensures) (λ o h. gives_run source disk o (omega arith) h)
+    c.run.ensures.output c.run.ensures.refused c.end-status.ensures.output c.end-status.ensures.refused
