@@ -45,8 +45,10 @@ pub record WorkedBooks : Type 0 where
       ((1, record_of 0 (left ∷ [])) ∷ (1, record_of 1 (left ∷ [])) ∷ (1, record_of 2 (left ∷ right ∷ [])) ∷ [])
       ≡ Ok (entry_with 1 (record_of 0 []) (left ∷ []) ∷ entry_with 1 (record_of 2 []) (right ∷ []) ∷ [])
   pub first_book : IsLegal in_order (first 20 first_again) [] (record_of 0 (sole ∷ []) ∷ [])
-  pub nothing_new : IsLegal in_order (first 20 first_again) (record_of 0 (sole ∷ []) ∷ []) (record_of 0 (sole ∷ []) ∷ [])
+  pub nothing_new : IsLegal in_order (first 20 first_again)
+      (record_of 0 (sole ∷ []) ∷ []) (record_of 0 (sole ∷ []) ∷ [])
   pub late_book : IsLegal in_order late [] (record_of 0 (left ∷ []) ∷ record_of 2 (right ∷ []) ∷ [])
   -- a column is stored once, and with the first upload that brings it
-  pub not_twice : IsLegal in_order (first 20 first_again) [] (record_of 0 (sole ∷ []) ∷ record_of 0 (sole ∷ []) ∷ []) → ⊥
+  pub not_twice : IsLegal in_order (first 20 first_again) []
+      (record_of 0 (sole ∷ []) ∷ record_of 0 (sole ∷ []) ∷ []) → ⊥
   pub not_the_third : IsLegal in_order late [] (record_of 2 (left ∷ right ∷ []) ∷ []) → ⊥
