@@ -98,6 +98,32 @@ stands w first turns es rest is =
       among = λ i r h. absurd (cc h);
     }
 
+-- ---- one turn more
+
+stored_is : (es : List Entry) (pass : ℕ) (u : UploadData) (cs : List Column) → 1 ≤ length cs → with_new es pass u cs ≡ es ++ entry_with pass u cs ∷ []
+stored_is es pass u [] some = absurd (omega (arith, some))
+stored_is es pass u (c ∷ cs) some = refl
+
+module _ (w : Scenario) (first : List Entry) (turns : List Turn) (es : List Entry) (pass : ℕ) (u : UploadData) (rest : List UploadData)
+    (is : HasApplied w first turns es (u ∷ rest)) where
+  step : (new : List Column) → decide w.shape ROOM (records es) u ≡ Ok new → HasApplied w first (turns ++ (pass, u) ∷ []) (with_new es pass u new) rest
+  step new decides = record {
+    split = is.split ∙ sym (append_assoc (uploads_in turns) (u ∷ []) rest)
+        ∙ ap (λ (x : List UploadData). x ++ rest) (sym (map-append (λ (t : Turn). t.1) turns ((pass, u) ∷ [])));
+    taken = fold-append (with_turn w.shape) (Ok first) turns ((pass, u) ∷ []) ∙ ap (λ (r : Came). with_turn w.shape r (pass, u)) is.taken
+        ∙ ap (λ (r : Result (List Column) BookFault). booked_by es pass u r) decides;
+  }
+
+  -- by what a journal answers: all columns of the upload are known, or its record is stored
+  pub known : decide w.shape ROOM (records es) u ≡ Ok [] → HasApplied w first (turns ++ (pass, u) ∷ []) es rest
+  known decides = step [] decides
+
+  pub stored : decide w.shape ROOM (records es) u ≡ Ok (stored_entry pass es u).stored.columns → 1 ≤ length (stored_entry pass es u).stored.columns →
+      HasApplied w first (turns ++ (pass, u) ∷ []) (es ++ stored_entry pass es u ∷ []) rest
+  stored decides some =
+      subst (λ (x : List Entry). HasApplied w first (turns ++ (pass, u) ∷ []) x rest) (stored_is es pass u (new_columns (content es) u.columns) some)
+      (step (new_columns (content es) u.columns) decides)
+
 -- ---- what holds then
 
 module _ (w : Scenario) (first : List Entry) (turns : List Turn) (es : List Entry) (rest : List UploadData) (is : HasApplied w first turns es rest) where
@@ -123,16 +149,12 @@ module _ (w : Scenario) (first : List Entry) (turns : List Turn) (es : List Entr
   list_legal : (n : ℕ) (l : List Entry) → Stands w first n l → IsLegal in_order w (records first) (records l)
   list_legal n l s = record { more = s.more; begins = s.is; each = s.legal }
 
-  stored_is : (pass : ℕ) (u : UploadData) (cs : List Column) → 1 ≤ length cs → with_new es pass u cs ≡ es ++ entry_with pass u cs ∷ []
-  stored_is pass u [] some = absurd (omega (arith, some))
-  stored_is pass u (c ∷ cs) some = refl
-
   -- with the record of the next upload
   next_legal : (pass : ℕ) (u : UploadData) (more : List UploadData) → rest ≡ u ∷ more →
       decide w.shape ROOM (records es) u ≡ Ok (stored_entry pass es u).stored.columns →
       1 ≤ length (stored_entry pass es u).stored.columns → IsLegal in_order w (records first) (records (es ++ stored_entry pass es u ∷ []))
   next_legal pass u more next decides some =
-      subst (λ (x : List Entry). IsLegal in_order w (records first) (records x)) (stored_is pass u (new_columns (content es) u.columns) some)
+      subst (λ (x : List Entry). IsLegal in_order w (records first) (records x)) (stored_is es pass u (new_columns (content es) u.columns) some)
       (list_legal (length turns + 1) (with_new es pass u (new_columns (content es) u.columns))
       (stands_next w first es (length turns) u now (next_low u more next) (next_is u more next) (new_columns (content es) u.columns) decides pass))
 
@@ -232,12 +254,7 @@ first_refused shape es ((pass, u) ∷ turns) fault h =
 pub law : LawOfTurns
 law = record {
   start = λ w first. record { split = refl; taken = refl };
-  step = λ w first turns es u rest pass new is decides. record {
-    split = is.split ∙ sym (append_assoc (uploads_in turns) (u ∷ []) rest)
-        ∙ ap (λ (x : List UploadData). x ++ rest) (sym (map-append (λ (t : Turn). t.1) turns ((pass, u) ∷ [])));
-    taken = fold-append (with_turn w.shape) (Ok first) turns ((pass, u) ∷ []) ∙ ap (λ (r : Came). with_turn w.shape r (pass, u)) is.taken
-        ∙ ap (λ (r : Result (List Column) BookFault). booked_by es pass u r) decides;
-  };
+  step = λ w first turns es u rest pass new is decides. step w first turns es pass u rest is new decides;
   holds = in_turn;
   refused = first_refused;
 }
