@@ -47,7 +47,7 @@ pub fn turns_are_legal()
     ensures counts { LawOfCounts }
 {}
 
-/// Two worked runs: their uploads, the lists that they leave, and two lists that no run of them leaves.
+/// Worked runs: their uploads, the lists that they leave, two lists that no run of them leaves, and a clash.
 pub fn worked_books()
     ensures { WorkedBooks }
 {}
