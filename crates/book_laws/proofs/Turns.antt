@@ -21,12 +21,12 @@ use Rattle.run_laws.specs.Booking.{uploads_of, booked_by}
 use Rattle.book_laws.specs.Legal.{no_upload, in_order, IsLegal}
 use Rattle.book_laws.specs.Keeping.{IsHeld, AllHeld, HasKeysOnce, IsCaused, AreAcked}
 use Rattle.book_laws.specs.Turns.{Turn, uploads_in, with_turn, applied, IsFirstRefused, HasApplied, count_before, among_first}
-use Rattle.book_laws.specs.Laws.{IsGrown, IsInTurn, LawOfTurns, LawOfCounts}
+use Rattle.book_laws.specs.Laws.{HasGrown, IsInTurn, LawOfTurns, LawOfCounts}
 use Rattle.book_laws.proofs.Lists.{all_flat, get_right, front_itself}
 use Rattle.book_laws.proofs.Uploads.{placed_at, sent_at, columns_are, count_next, count_rises}
 use Rattle.book_laws.proofs.Growing as growing
 use Rattle.book_laws.proofs.Refusals as refusals
-use Rattle.book_laws.proofs.Standing.{Stands, stands_next}
+use Rattle.book_laws.proofs.Progress.{Stands, stands_next}
 
 -- ---- all turns
 
@@ -190,7 +190,7 @@ module _ (w : Scenario) (first : List Entry) (turns : List Turn) (es : List Entr
       refusals.law in_order w (records first) (records es) whole once (list_legal (length turns) es now) s.at s.seq fault s.declared s.sent
       (subst (λ (x : UploadData). decide w.shape ROOM (records es) x ≡ Err fault) (sym (next_is u more next) ∙ s.is) refused)
 
-  grown : IsGrown in_order w (records first) (records es)
+  grown : HasGrown in_order w (records first) (records es)
   grown = growing.law in_order w (records first) (records es) (list_legal (length turns) es now)
 
   -- where the records are those of the start, so are the entries

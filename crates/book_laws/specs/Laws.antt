@@ -26,7 +26,7 @@ use Rattle.book_laws.specs.Turns.{Turn, applied, IsFirstRefused, HasApplied, cou
 -- What a legal list has. Each list from the one that was found up to it is legal too. What was found stays, what was
 -- added is brought, and no key comes twice. With all that is brought it is the join; and where all of that was found,
 -- nothing is added.
-pub record IsGrown (order : Order) (w : Scenario) (before list : List UploadData) : Type 0 where
+pub record HasGrown (order : Order) (w : Scenario) (before list : List UploadData) : Type 0 where
   pub begins : IsPrefix before list
   pub fronts : (l : List UploadData) → IsPrefix before l → IsPrefix l list → IsLegal order w before l
   pub stays : (c : Column) → IsHeld (content_in before) c → IsHeld (content_in list) c
@@ -37,7 +37,7 @@ pub record IsGrown (order : Order) (w : Scenario) (before list : List UploadData
 
 abbrev pub LawOfLegalLists : Type 0
 LawOfLegalLists = (order : Order) (w : Scenario) (before list : List UploadData) → IsLegal order w before list
-    → IsGrown order w before list
+    → HasGrown order w before list
 
 -- Where an upload is refused after a legal list, the cause lies between the list that was found and what is brought.
 abbrev pub LawOfRefusals : Type 0
