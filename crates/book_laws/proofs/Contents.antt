@@ -1,11 +1,13 @@
 -- What is found in the content of records.
-use Rattle.std.specs.Prelude.{◌≡◌, ℕ, zero, suc, ◌+◌, ◌<◌, ◌⊎◌, Bool, true, false, cond, List, [], ◌∷◌, ◌++◌, length, fold, map, filter, All, Contains, Option, None, Some, IfSome, is_none, slice_index_or, Result, Ok}
+use Rattle.std.specs.Prelude.{◌≡◌, ℕ, zero, suc, ◌+◌, ◌<◌, ◌⊎◌, Bool, true, false, cond, List, [], ◌∷◌}
+use Rattle.std.specs.Prelude.{◌++◌, length, fold, map, filter, All, Contains, Option, None, Some, IfSome, is_none, slice_index_or, Result, Ok}
 use Rattle.std.specs.List.{AllByRecursion, IsDistinct}
 use Rattle.std.specs.Option.{option_or}
 use Rattle.std.specs.BTreeMap.{is_at}
 use Rattle.std.proofs.Common.{refl, sym, ap, ◌∙◌, subst, arith, inl, inr, true≢false, append-nil}
 use Rattle.std.proofs.lemmas.List.{map-append}
-use Rattle.std.proofs.lemmas.List.Elements.{All-nil, All-cons, All-head, All-tail, All-contains, All-contains_itself, All-weaker, All-from_recursion, recursion_from_All, All-append, filter_passes}
+use Rattle.std.proofs.lemmas.List.Elements.{All-nil, All-cons, All-head, All-tail, All-contains}
+use Rattle.std.proofs.lemmas.List.Elements.{All-contains_itself, All-weaker, All-from_recursion, recursion_from_All, All-append, filter_passes}
 use Rattle.std.proofs.lemmas.Grind.{flat_map-append, fold-append}
 use Rattle.lg_model.specs.declared.column.Key.{Key}
 use Rattle.lg_model.specs.Placing.{Shape}
@@ -66,7 +68,8 @@ told m c q b p = found-insert m c.key q c.cells ∙ ap (λ (x : Bool). cond x (S
 
 still_found : (m : Content) (cs : List Column) (k : Key) (v : Cells) → Says k v cs → found m k ≡ Some v → found (fold with_column m cs) k ≡ Some v
 still_found m [] k v all h = h
-still_found m (c ∷ cs) k v all h = still_found (with_column m c) cs k v (All-tail (λ (x : Column). x.key ≡ k → x.cells ≡ v) c cs all) (by (is_at (key_cmp k) c.key) refl)
+still_found m (c ∷ cs) k v all h = still_found (with_column m c) cs k v (All-tail (λ (x : Column). x.key ≡ k → x.cells ≡ v) c cs all)
+    (by (is_at (key_cmp k) c.key) refl)
   where
     by : (b : Bool) → is_at (key_cmp k) c.key ≡ b → found (with_column m c) k ≡ Some v
     by true p =
@@ -78,7 +81,8 @@ is_found : (m : Content) (cs : List Column) (c : Column) → Says c.key c.cells 
 is_found m [] c all h = absurd (let low = h.1 in omega (arith, low))
 is_found m (d ∷ cs) c all h = by h.0 h.1 h.2 (λ g. is_found (with_column m d) cs c (All-tail (λ (x : Column). x.key ≡ c.key → x.cells ≡ c.cells) d cs all) g)
   where
-    by : (i : ℕ) → i < length (d ∷ cs) → slice_index_or (d ∷ cs) i c ≡ c → (Contains cs c → found (fold with_column (with_column m d) cs) c.key ≡ Some c.cells) →
+    by : (i : ℕ) → i < length (d ∷ cs) → slice_index_or (d ∷ cs) i c ≡ c →
+        (Contains cs c → found (fold with_column (with_column m d) cs) c.key ≡ Some c.cells) →
         found (fold with_column (with_column m d) cs) c.key ≡ Some c.cells
     by zero low is later =
         let here : is_at (key_cmp c.key) d.key ≡ true = is_at_key c.key d.key ∙ ap (λ (x : Column). same_column_key c.key x.key) is ∙ key_itself c.key in
@@ -94,7 +98,8 @@ came_from m cs k v h = of_if (found (fold with_column m cs) k) (Either k) v (agr
     Either q u = (found m q ≡ Some u) ⊎ Has cs q u
 
     each : All (λ (c : Column). Either c.key c.cells) cs
-    each = All-weaker (Contains cs) (λ (c : Column). Either c.key c.cells) (λ c has. inr (record { column = c; inside = has; key = refl; cells = refl })) cs (All-contains_itself cs)
+    each = All-weaker (Contains cs) (λ (c : Column). Either c.key c.cells)
+        (λ c has. inr (record { column = c; inside = has; key = refl; cells = refl })) cs (All-contains_itself cs)
 
 -- under the key of a column something is found
 pub some_found : (cs : List Column) (c : Column) → Contains cs c → (v : Cells) × (found (content_of cs) c.key ≡ Some v)
@@ -125,7 +130,8 @@ says_itself (d ∷ cs) apart c has = by has.0 has.1 has.2 (λ h. says_itself cs 
     by : (i : ℕ) → i < length (d ∷ cs) → slice_index_or (d ∷ cs) i c ≡ c → (Contains cs c → All Same cs) → All Same (d ∷ cs)
     by zero low is rest =
         All-cons Same d cs (λ same. ap (λ (x : Column). x.cells) is)
-        (All-weaker (Contains cs) Same (λ x inside same. absurd (other d.key cs x apart.0 inside (ap (λ (y : Column). y.key) is ∙ sym same))) cs (All-contains_itself cs))
+        (All-weaker (Contains cs) Same (λ x inside same. absurd (other d.key cs x apart.0 inside (ap (λ (y : Column). y.key) is ∙ sym same))) cs
+        (All-contains_itself cs))
     by (suc i) low is rest =
         let inside : Contains cs c = (i, omega (arith, low), is) in
         All-cons Same d cs (λ same. absurd (other d.key cs c apart.0 inside same)) (rest inside)
@@ -133,7 +139,8 @@ says_itself (d ∷ cs) apart c has = by has.0 has.1 has.2 (λ h. says_itself cs 
 -- each column of an upload is found in its content
 pub own_found : (cs : List Column) → IsUpload cs → (c : Column) → Contains cs c → found (content_of cs) c.key ≡ Some c.cells
 own_found cs is c has =
-    is_found [] cs c (says_itself cs (subst (λ (xs : List Column). IsDistinct same_column_key (keys_of xs)) (all_pass cs) (distinct_new (λ (x : Column). true) cs is.apart)) c has) has
+    is_found [] cs c (says_itself cs (subst (λ (xs : List Column). IsDistinct same_column_key (keys_of xs)) (all_pass cs)
+    (distinct_new (λ (x : Column). true) cs is.apart)) c has) has
   where
     all_pass : (xs : List Column) → filter (λ (x : Column). true) xs ≡ xs
     all_pass [] = refl
@@ -141,9 +148,11 @@ own_found cs is c has =
 
 pub new_absent : (m : Content) (cs : List Column) → All (λ (c : Column). found m c.key ≡ None) (new_columns m cs)
 new_absent m cs =
-    All-weaker (λ (c : Column). is_new m c ≡ true) (λ (c : Column). found m c.key ≡ None) (λ c h. absent (found m c.key) h) (new_columns m cs) (filter_passes (is_new m) cs)
+    All-weaker (λ (c : Column). is_new m c ≡ true) (λ (c : Column). found m c.key ≡ None) (λ c h. absent (found m c.key) h) (new_columns m cs)
+    (filter_passes (is_new m) cs)
 
-distinct_append : (xs ys : List Key) → IsDistinct same_column_key xs → IsDistinct same_column_key ys → All (λ (k : Key). All (Unlike k) ys) xs → IsDistinct same_column_key (xs ++ ys)
+distinct_append : (xs ys : List Key) → IsDistinct same_column_key xs → IsDistinct same_column_key ys → All (λ (k : Key). All (Unlike k) ys) xs →
+    IsDistinct same_column_key (xs ++ ys)
 unfolding IsDistinct
 distinct_append [] ys a b all = b
 distinct_append (x ∷ xs) ys a b all = (
@@ -166,7 +175,8 @@ length_new m (c ∷ cs) apart none =
     still : (x : Column) → Contains cs x → found (with_column m c) x.key ≡ None
     still x inside =
         let far : is_at (key_cmp x.key) c.key ≡ false = is_at_key x.key c.key ∙ same_column_key-flip x.key c.key
-        ∙ All-contains (Unlike c.key) (keys_of cs) x.key (All-from_recursion (Unlike c.key) (keys_of cs) apart.0) (contains_map (λ (y : Column). y.key) cs x inside) in
+        ∙ All-contains (Unlike c.key) (keys_of cs) x.key (All-from_recursion (Unlike c.key) (keys_of cs) apart.0)
+        (contains_map (λ (y : Column). y.key) cs x inside) in
         told m c x.key false far ∙ All-contains (λ (y : Column). found m y.key ≡ None) cs x (All-tail (λ (y : Column). found m y.key ≡ None) c cs none) inside
 
 -- ---- lists of records
@@ -187,7 +197,8 @@ as_many l once =
     omega (arith, n)
 
 -- no key stands twice after new columns
-pub once_more : (l : List UploadData) (r u : UploadData) → r.columns ≡ new_columns (content_in l) u.columns → IsUpload u.columns → HasKeysOnce l → HasKeysOnce (l ++ r ∷ [])
+pub once_more : (l : List UploadData) (r u : UploadData) → r.columns ≡ new_columns (content_in l) u.columns → IsUpload u.columns → HasKeysOnce l →
+    HasKeysOnce (l ++ r ∷ [])
 once_more l r u is whole once =
     subst (λ (ks : List Key). IsDistinct same_column_key ks) (sym all)
     (distinct_append (keys_of (columns_in l)) (keys_of new) once (distinct_new (is_new (content_in l)) u.columns whole.apart) apart)
@@ -215,7 +226,8 @@ once_more l r u is whole once =
       where
         keys_all : (P : Key → Type 0) (cs : List Column) → ((c : Column) → Contains cs c → P c.key) → All P (keys_of cs)
         keys_all P [] each = All-nil P
-        keys_all P (c ∷ cs) each = All-cons P c.key (keys_of cs) (each c (0, omega arith, refl)) (keys_all P cs (λ d has. each d (suc has.0, (let low = has.1 in omega (arith, low)), has.2)))
+        keys_all P (c ∷ cs) each = All-cons P c.key (keys_of cs) (each c (0, omega arith, refl))
+            (keys_all P cs (λ d has. each d (suc has.0, (let low = has.1 in omega (arith, low)), has.2)))
 
 -- ---- an upload that is taken
 
@@ -234,7 +246,8 @@ plain_records (r ∷ l) = ap (λ (rs : List UploadData). r ∷ rs) (plain_record
 content_new : (es : List Entry) (u : UploadData) (new : List Column) → content (with_new es 0 u new) ≡ fold with_column (content es) new
 content_new es u [] = refl
 content_new es u (c ∷ cs) =
-    ap (λ (rs : List UploadData). content_in rs) (map-append (λ (x : Entry). x.stored) es (entry_with 0 u (c ∷ cs) ∷ [])) ∙ content_more (records es) (entry_with 0 u (c ∷ cs)).stored
+    ap (λ (rs : List UploadData). content_in rs) (map-append (λ (x : Entry). x.stored) es (entry_with 0 u (c ∷ cs) ∷ []))
+    ∙ content_more (records es) (entry_with 0 u (c ∷ cs)).stored
 
 pub taken_in : (shape : Shape) (room : ℕ) (l : List UploadData) (u : UploadData) (new : List Column) → decide shape room l u ≡ Ok new → IsTakenIn l u new
 taken_in shape room l u new is =
@@ -252,7 +265,8 @@ join_keeps m n k v ordered both h = found-join m n k ordered ∙ by (found n k) 
   where
     by : (o : Option Cells) → found n k ≡ o → option_or o (found m k) ≡ Some v
     by None none = h
-    by (Some u) is = ap (λ (x : Cells). Some x) (of_if (found n k) (λ (x : Cells). x ≡ v) u (of_if (found m k) (λ (x : Cells). IfSome (found n k) (λ (y : Cells). y ≡ x)) v (both k) h) is)
+    by (Some u) is = ap (λ (x : Cells). Some x)
+        (of_if (found n k) (λ (x : Cells). x ≡ v) u (of_if (found m k) (λ (x : Cells). IfSome (found n k) (λ (y : Cells). y ≡ x)) v (both k) h) is)
 
 pub taken_keeps : (l : List UploadData) (u : UploadData) (new : List Column) → IsTakenIn l u new → (k : Key) (v : Cells) → found (content_in l) k ≡ Some v →
     found (fold with_column (content_in l) new) k ≡ Some v
@@ -260,7 +274,8 @@ taken_keeps l u new is k v h =
     ap (λ (m : Content). found m k) is.joined ∙ join_keeps (content_in l) (content_of u.columns) k v (in_order [] u.columns tt) is.joinable h
 
 -- and so is each column of it
-pub taken_holds : (l : List UploadData) (u : UploadData) (new : List Column) → IsTakenIn l u new → IsUpload u.columns → All (IsHeld (fold with_column (content_in l) new)) u.columns
+pub taken_holds : (l : List UploadData) (u : UploadData) (new : List Column) → IsTakenIn l u new → IsUpload u.columns →
+    All (IsHeld (fold with_column (content_in l) new)) u.columns
 taken_holds l u new is whole =
     All-weaker (Contains u.columns) (IsHeld (fold with_column (content_in l) new)) (λ c has.
     ap (λ (m : Content). found m c.key) is.joined ∙ found-join (content_in l) (content_of u.columns) c.key (in_order [] u.columns tt)

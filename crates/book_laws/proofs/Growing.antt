@@ -37,7 +37,8 @@ joined : (m n all : Content) → InOrder key_cmp m → InOrder key_cmp n → InO
     ((k : Key) (v : Cells) → found all k ≡ Some v → (found m k ≡ Some v) ⊎ (found n k ≡ Some v)) → all ≡ join m n
 joined m n all sm sn sa left right back = one_map keys_total tied all (join m n) sa (join_in_order m n sm) into from
   where
-    into_by : (k : Key) (v : Cells) (o : Option Cells) → found n k ≡ o → found all k ≡ Some v → (found m k ≡ Some v) ⊎ (found n k ≡ Some v) → option_or o (found m k) ≡ Some v
+    into_by : (k : Key) (v : Cells) (o : Option Cells) → found n k ≡ o → found all k ≡ Some v → (found m k ≡ Some v) ⊎ (found n k ≡ Some v) →
+        option_or o (found m k) ≡ Some v
     into_by k v None is h (inl x) = x
     into_by k v None is h (inr x) = absurd (none_some v (sym is ∙ x))
     into_by k v (Some u) is h x = sym (right k u is) ∙ h
@@ -109,11 +110,13 @@ nothing_new order w before (r ∷ more) legal all = absurd (by r.columns refl)
         let same : new_columns m (upload_at w legal.0.at r.seq).columns ≡ c ∷ cs = sym (are_new order w before r legal.0) ∙ is in
         let none : found m c.key ≡ None = All-head News c cs (subst (All News) same (new_absent m (upload_at w legal.0.at r.seq).columns)) in
         let came : Contains (brought_to_all w (picked w)) c =
-        All-head (Contains (brought_to_all w (picked w))) c cs (subst (All (Contains (brought_to_all w (picked w)))) is (next_brought order w before r legal.0)) in
+        All-head (Contains (brought_to_all w (picked w))) c cs
+        (subst (All (Contains (brought_to_all w (picked w)))) is (next_brought order w before r legal.0)) in
         none_some c.cells (sym none ∙ All-contains (IsHeld m) (brought_to_all w (picked w)) c all came)
 
 -- what lies between the list that was found and a legal one is legal
-pub legal_between : (order : Order) (w : Scenario) (before l list : List UploadData) → IsLegal order w before list → IsPrefix before l → IsPrefix l list → IsLegal order w before l
+pub legal_between : (order : Order) (w : Scenario) (before l list : List UploadData) → IsLegal order w before list → IsPrefix before l → IsPrefix l list →
+    IsLegal order w before l
 legal_between order w before l list legal p q = record {
   more = p.0;
   begins = sym p.1;
@@ -129,7 +132,8 @@ law order w before list legal = record {
   begins = (legal.more, sym legal.begins);
   fronts = λ l p q. legal_between order w before l list legal p q;
   stays = λ c h. ap (λ (x : List UploadData). found (content_in x) c.key) legal.begins ∙ legal_keeps order w before legal.more c.key c.cells legal.each h;
-  adds = subst (λ (x : List UploadData). All (Contains (brought_to_all w (picked w))) (columns_in x)) (sym (added_is order w before list legal)) (legal_brought order w before legal.more legal.each);
+  adds = subst (λ (x : List UploadData). All (Contains (brought_to_all w (picked w))) (columns_in x)) (sym (added_is order w before list legal))
+      (legal_brought order w before legal.more legal.each);
   once = λ h. subst HasKeysOnce (sym legal.begins) (legal_once order w before legal.more legal.each h);
   joined = λ all. subst (IsJoined w before) (sym legal.begins) (is_joined order w before legal.more legal.each (subst (AllHeld w) legal.begins all));
   repeats = λ all. legal.begins ∙ ap (λ (m : List UploadData). before ++ m) (nothing_new order w before legal.more legal.each all) ∙ append-nil before;

@@ -107,4 +107,5 @@ module _ (stands : Standing) (order : Order) (w : Scenario) (before kept full : 
       front_of set c l s is = let b = left.settled set c s in subst (λ (x : List UploadData). IsPrefix x full) (one c b.list l b.is is) b.ends
 
 pub law : (was now since : Files) → LawOfFilesLeft was now since
-law was now since order w before kept full left = by_files (StandsFor w.shape) order w before kept full was now since (λ c l m is js. one_list w.shape c l m is js) left
+law was now since order w before kept full left = by_files (StandsFor w.shape) order w before kept full was now since
+    (λ c l m is js. one_list w.shape c l m is js) left

@@ -26,7 +26,8 @@ module _ (order : Order) (w : Scenario) where
   pub are_new : (l : List UploadData) (r : UploadData) (is : IsLegalNext order w l r) → r.columns ≡ new_columns (content_in l) (upload_at w is.at r.seq).columns
   are_new l r is = (taken w.shape ROOM l (upload_at w is.at r.seq) r.columns is.stored).is
 
-  next_keeps : (l : List UploadData) (r : UploadData) (k : Key) (v : Cells) → IsLegalNext order w l r → found (content_in l) k ≡ Some v → found (content_in (l ++ r ∷ [])) k ≡ Some v
+  next_keeps : (l : List UploadData) (r : UploadData) (k : Key) (v : Cells) → IsLegalNext order w l r → found (content_in l) k ≡ Some v →
+      found (content_in (l ++ r ∷ [])) k ≡ Some v
   next_keeps l r k v is h =
       ap (λ (m : Content). found m k) (content_more l r)
       ∙ taken_keeps l (upload_at w is.at r.seq) r.columns (taken_in w.shape ROOM l (upload_at w is.at r.seq) r.columns is.stored) k v h
@@ -34,17 +35,20 @@ module _ (order : Order) (w : Scenario) where
   pub next_brought : (l : List UploadData) (r : UploadData) → IsLegalNext order w l r → All (Contains (brought_to_all w (picked w))) r.columns
   next_brought l r is =
       All-same (Contains (brought_to_all w (picked w))) r.columns (new_columns (content_in l) (upload_at w is.at r.seq).columns) (are_new l r is)
-      (All-filter (is_new (content_in l)) (Contains (brought_to_all w (picked w))) (upload_at w is.at r.seq).columns (own_columns w is.at r.seq is.declared is.sent))
+      (All-filter (is_new (content_in l)) (Contains (brought_to_all w (picked w))) (upload_at w is.at r.seq).columns
+      (own_columns w is.at r.seq is.declared is.sent))
 
   next_once : (l : List UploadData) (r : UploadData) → IsLegalNext order w l r → HasKeysOnce l → HasKeysOnce (l ++ r ∷ [])
   next_once l r is once = once_more l r (upload_at w is.at r.seq) (are_new l r is) (numbered_at w is.at r.seq is.sent).whole once
 
   -- ---- all of them
 
-  pub legal_keeps : (l more : List UploadData) (k : Key) (v : Cells) → AreLegalNext order w l more → found (content_in l) k ≡ Some v → found (content_in (l ++ more)) k ≡ Some v
+  pub legal_keeps : (l more : List UploadData) (k : Key) (v : Cells) → AreLegalNext order w l more → found (content_in l) k ≡ Some v →
+      found (content_in (l ++ more)) k ≡ Some v
   legal_keeps l [] k v all h = ap (λ (x : List UploadData). found (content_in x) k) (append-nil l) ∙ h
   legal_keeps l (r ∷ more) k v all h =
-      ap (λ (x : List UploadData). found (content_in x) k) (sym (append_assoc l (r ∷ []) more)) ∙ legal_keeps (l ++ r ∷ []) more k v all.1 (next_keeps l r k v all.0 h)
+      ap (λ (x : List UploadData). found (content_in x) k) (sym (append_assoc l (r ∷ []) more))
+      ∙ legal_keeps (l ++ r ∷ []) more k v all.1 (next_keeps l r k v all.0 h)
 
   pub legal_brought : (l more : List UploadData) → AreLegalNext order w l more → All (Contains (brought_to_all w (picked w))) (columns_in more)
   legal_brought l [] all = All-nil (Contains (brought_to_all w (picked w)))

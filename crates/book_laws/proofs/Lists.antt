@@ -17,7 +17,8 @@ pub record IsThere {X Y : Type 0} (f : X → List Y) (xs : List X) (h q : ℕ) (
   pub inside : offset f xs h + q < length (flat_map f xs)
   pub is : slice_index_or (flat_map f xs) (offset f xs h + q) e ≡ slice_index_or (f (slice_index_or xs h d)) q e
 
-pub flat_at : {X Y : Type 0} (f : X → List Y) (xs : List X) (h q : ℕ) (d : X) (e : Y) → h < length xs → q < length (f (slice_index_or xs h d)) → IsThere f xs h q d e
+pub flat_at : {X Y : Type 0} (f : X → List Y) (xs : List X) (h q : ℕ) (d : X) (e : Y) → h < length xs → q < length (f (slice_index_or xs h d)) →
+    IsThere f xs h q d e
 flat_at f [] h q d e low inside = absurd (omega (arith, low))
 flat_at f (x ∷ xs) zero q d e low inside =
     let none : 0 + q ≡ q = omega arith in
@@ -38,7 +39,8 @@ flat_at f (x ∷ xs) (suc h) q d e low inside =
           ∙ ap (λ n. slice_index_or (flat_map f xs) n e) back ∙ rest.is;
     }
 
-pub offset_next : {X Y : Type 0} (f : X → List Y) (xs : List X) (h : ℕ) (d : X) → h < length xs → offset f xs (suc h) ≡ offset f xs h + length (f (slice_index_or xs h d))
+pub offset_next : {X Y : Type 0} (f : X → List Y) (xs : List X) (h : ℕ) (d : X) → h < length xs →
+    offset f xs (suc h) ≡ offset f xs h + length (f (slice_index_or xs h d))
 offset_next f [] h d low = absurd (omega (arith, low))
 offset_next f (x ∷ xs) zero d low = let size = length-append (f x) [] in omega (arith, size)
 offset_next f (x ∷ xs) (suc h) d low =
@@ -76,10 +78,12 @@ origin f (x ∷ xs) d p low = elim (cases_lt p (length (f x))) as (λ _. Origin 
       let r = origin f xs d (p - length (f x)) (omega (arith, past, low, size)) in
       let inside = r.inside in
       let is = r.is in
-      record { at = suc r.at; nth = r.nth; inside = omega (arith, inside); low = r.low; is = omega (arith, is, past, length-append (f x) (flat_map f (take r.at xs))) }
+      let before = length-append (f x) (flat_map f (take r.at xs)) in
+      record { at = suc r.at; nth = r.nth; inside = omega (arith, inside); low = r.low; is = omega (arith, is, past, before) }
 ]
 
-pub in_flat : {X Y : Type 0} (f : X → List Y) (xs : List X) (i : ℕ) (d : X) (y : Y) → i < length xs → Contains (f (slice_index_or xs i d)) y → Contains (flat_map f xs) y
+pub in_flat : {X Y : Type 0} (f : X → List Y) (xs : List X) (i : ℕ) (d : X) (y : Y) → i < length xs → Contains (f (slice_index_or xs i d)) y →
+    Contains (flat_map f xs) y
 in_flat f [] i d y low h = absurd (omega (arith, low))
 in_flat f (x ∷ xs) zero d y low h = Contains-append_left (f x) (flat_map f xs) y h
 in_flat f (x ∷ xs) (suc i) d y low h = Contains-append_right (f x) (flat_map f xs) y (in_flat f xs i d y (omega (arith, low)) h)

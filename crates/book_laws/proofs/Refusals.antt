@@ -121,6 +121,7 @@ module _ (order : Order) (w : Scenario) (before more : List UploadData) (legal :
 
 pub law : LawOfRefusals
 law order w before list whole once legal h q fault declared sent is =
-    let same : decide w.shape ROOM (before ++ legal.more) (upload_at w h q) ≡ Err fault = ap (λ (l : List UploadData). decide w.shape ROOM l (upload_at w h q)) (sym legal.begins) ∙ is in
+    let same : decide w.shape ROOM (before ++ legal.more) (upload_at w h q) ≡ Err fault =
+    ap (λ (l : List UploadData). decide w.shape ROOM l (upload_at w h q)) (sym legal.begins) ∙ is in
     caused order w before legal.more legal.each h q declared sent whole once fault
     (subst (Follows w.shape ROOM (before ++ legal.more) (upload_at w h q)) same (outcomes.law w.shape ROOM (before ++ legal.more) (upload_at w h q)))

@@ -1,16 +1,18 @@
 -- Which lists the worked runs leave.
 use Rattle.std.specs.Prelude.{◌≡◌, ℕ, zero, suc, ◌<◌, List, [], ◌∷◌, ◌++◌, All, false, Result, Ok}
-use Rattle.std.proofs.Common.{refl, sym, subst, arith, true≢false}
+use Rattle.std.proofs.Common.{ap, refl, sym, subst, arith, true≢false}
 use Rattle.std.proofs.lemmas.List.Elements.{All-from_recursion, All-nil}
 use Rattle.lg_model.specs.Scenario.{Scenario}
-use Rattle.lg_model.specs.Columns.{Column}
+use Rattle.lg_model.specs.declared.column.Bucket.{Bucket}
+use Rattle.lg_model.specs.Columns.{Cells, Column}
 use Rattle.lg_model.specs.Worked.{first, first_again, late}
 use Rattle.sketchlet_wire.specs.Uploads.{UploadData, holds_key}
 use Rattle.column_book.specs.declared.book.TheConstants.{ROOM}
 use Rattle.column_book.specs.declared.fault.BookFault.{BookFault}
 use Rattle.column_book.specs.Applying.{decide}
 use Rattle.book_laws.specs.Legal.{Order, in_order, upload_at, order_at, before_first, IsApart, IsLegalNext, AreLegalNext, IsLegal}
-use Rattle.book_laws.specs.Rows.{sole, left, right, record_of, WorkedBooks}
+use Rattle.book_laws.specs.Rows.{sole, left, right, dearer, dear, record_of, WorkedBooks}
+use Rattle.book_laws.specs.Keeping.{IsClash}
 use Rattle.book_laws.proofs.Lists.{same_rest}
 
 abbrev once : Scenario
@@ -66,6 +68,22 @@ not_the_third legal =
     at_host zero low first = true≢false (first 0 0 (omega arith) 0 left (omega arith))
     at_host (suc h) low first = omega (arith, low)
 
+-- ---- a clash
+
+first_bytes : List Bucket → ℕ
+first_bytes [] = 0
+first_bytes (b ∷ bs) = b.bytes
+
+clash : IsClash dearer (record_of 0 (sole ∷ []) ∷ []) sole.key sole dear
+unfolding first_bytes
+clash = record {
+  brought = (0, omega arith, refl);
+  under = refl;
+  has = refl;
+  named = (refl, refl);
+  other = λ same. let n : 1500 ≡ 1600 = ap (λ (x : Cells). first_bytes x.buckets) same in omega (arith, n);
+}
+
 pub worked : WorkedBooks
 worked = record {
   one_upload = refl;
@@ -73,6 +91,8 @@ worked = record {
   three_uploads = refl;
   two_before = refl;
   in_turn = refl;
+  refused = refl;
+  clash = clash;
   first_book = record { more = record_of 0 (sole ∷ []) ∷ []; begins = refl; each = (first_next, tt) };
   nothing_new = record { more = []; begins = refl; each = tt };
   late_book = record { more = record_of 0 (left ∷ []) ∷ record_of 2 (right ∷ []) ∷ []; begins = refl; each = (late_next, (third_next, tt)) };

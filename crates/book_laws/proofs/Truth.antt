@@ -42,7 +42,8 @@ module _ (w : Scenario) (before list : List UploadData) (is : IsJoined w before 
   agrees_by P (Some v) p a b = a
 
   agrees : AgreesWith w (book_of w) → AgreesWith w (content_in before) → AgreesWith w (content_in list)
-  agrees new old k = subst (λ (o : Option Cells). IfSome o (IsFrozen w k)) (sym (told k)) (agrees_by (IsFrozen w k) (found (book_of w) k) (found (content_in before) k) (new k) (old k))
+  agrees new old k = subst (λ (o : Option Cells). IfSome o (IsFrozen w k)) (sym (told k))
+      (agrees_by (IsFrozen w k) (found (book_of w) k) (found (content_in before) k) (new k) (old k))
 
   unknown : (q : Ask) → NoneIsKnown (look_in (content_in list)) w.shape q.switch q.epoch (asked_key w q) ↔ (NoneFound w before q × NoneArrived w q)
   unknown q = (
@@ -51,7 +52,8 @@ module _ (w : Scenario) (before list : List UploadData) (is : IsJoined w before 
       (λ i low. (none_has (place_key w q i) (brought_to_all w (picked w)) [] (parts none i low).0).1),
     )),
     (λ none i low.
-        told (place_key w q i) ∙ ap (λ (o : Option Cells). option_or o (found (content_in before) (place_key w q i))) (none_found (place_key w q i) (brought_to_all w (picked w)) (none.1 i low))
+        told (place_key w q i) ∙ ap (λ (o : Option Cells). option_or o (found (content_in before) (place_key w q i)))
+        (none_found (place_key w q i) (brought_to_all w (picked w)) (none.1 i low))
         ∙ none_found (place_key w q i) (columns_in before) (none.0 i low)),
   )
     where
@@ -67,7 +69,8 @@ module _ (w : Scenario) (before list : List UploadData) (is : IsJoined w before 
 pub law : LawOfTrueLists
 law order w before whole = record {
   added = λ l legal.
-      All-weaker (Contains (brought_to_all w (picked w))) (IsFrozenColumn w) (λ c has. All-contains (IsFrozenColumn w) (brought_to_all w (picked w)) c (true_run w whole).frozen has)
+      All-weaker (Contains (brought_to_all w (picked w))) (IsFrozenColumn w)
+      (λ c has. All-contains (IsFrozenColumn w) (brought_to_all w (picked w)) c (true_run w whole).frozen has)
       (columns_in (drop (length before) l)) (growing.law order w before l legal).adds;
   agrees = λ old l legal k. if_some (found (content_in l) k) (IsFrozen w k) (λ v h. legal_agrees old l legal k v h);
   answers = λ old l joined i d inside.
@@ -75,9 +78,11 @@ law order w before whole = record {
       ((true_book w (content_in l) whole (agrees w before l joined (true_run w whole).agrees old)).answers i d inside);
 }
   where
-    legal_agrees : AgreesWith w (content_in before) → (l : List UploadData) → IsLegal order w before l → (k : Key) (v : Cells) → found (content_in l) k ≡ Some v → IsFrozen w k v
+    legal_agrees : AgreesWith w (content_in before) → (l : List UploadData) → IsLegal order w before l → (k : Key) (v : Cells) →
+        found (content_in l) k ≡ Some v → IsFrozen w k v
     legal_agrees old l legal k v h =
-        elim (found_from order w before legal.more k v legal.each (ap (λ (x : List UploadData). found (content_in x) k) (sym legal.begins) ∙ h)) as (λ _. IsFrozen w k v) [
+        elim (found_from order w before legal.more k v legal.each (ap (λ (x : List UploadData). found (content_in x) k) (sym legal.begins) ∙ h))
+        as (λ _. IsFrozen w k v) [
           | inl there ↦ of_if (found (content_in before) k) (IsFrozen w k) v (old k) there
           | inr new ↦
               let is = All-contains (IsFrozenColumn w) (brought_to_all w (picked w)) new.column (true_run w whole).frozen new.inside in

@@ -21,12 +21,12 @@ use Rattle.run_laws.specs.Booking.{uploads_of, booked_by}
 use Rattle.book_laws.specs.Legal.{no_upload, in_order, IsLegal}
 use Rattle.book_laws.specs.Keeping.{IsHeld, AllHeld, HasKeysOnce, IsCaused, AreAcked}
 use Rattle.book_laws.specs.Turns.{Turn, uploads_in, with_turn, applied, IsFirstRefused, HasApplied, count_before, among_first}
-use Rattle.book_laws.specs.Laws.{IsGrown, IsInTurn, LawOfTurns, LawOfCounts}
+use Rattle.book_laws.specs.Laws.{HasGrown, IsInTurn, LawOfTurns, LawOfCounts}
 use Rattle.book_laws.proofs.Lists.{all_flat, get_right, front_itself}
 use Rattle.book_laws.proofs.Uploads.{placed_at, sent_at, columns_are, count_next, count_rises}
 use Rattle.book_laws.proofs.Growing as growing
 use Rattle.book_laws.proofs.Refusals as refusals
-use Rattle.book_laws.proofs.Standing.{Stands, stands_next}
+use Rattle.book_laws.proofs.Progress.{Stands, stands_next}
 
 -- ---- all turns
 
@@ -49,13 +49,15 @@ no_ok f a h = absurd (cc h)
 no_err : (f : BookFault) (a : List Entry) → ◌≡◌ {A = Came} (Ok a) (Err f) → ⊥
 no_err f a h = absurd (cc h)
 
-stands_after : (w : Scenario) (first : List Entry) (turns : List Turn) (past : List UploadData) (at es : List Entry) (rest : List UploadData) → Stands w first (length past) at →
+stands_after : (w : Scenario) (first : List Entry) (turns : List Turn) (past : List UploadData) (at es : List Entry) (rest : List UploadData) →
+    Stands w first (length past) at →
     uploads_of w ≡ past ++ (uploads_in turns ++ rest) → applied w.shape at turns ≡ Ok es → Stands w first (length past + length turns) es
 stands_after w first [] past at es rest old split is =
     let none : length past ≡ length past + 0 = omega arith in
     subst (λ n. Stands w first n es) none (subst (Stands w first (length past)) (ok_same at es is) old)
 stands_after w first ((pass, u) ∷ turns) past at es rest old split is =
-    by (decide w.shape ROOM (records at) u) refl (λ new s. stands_after w first turns (past ++ u ∷ []) new es rest s (split ∙ sym (append_assoc past (u ∷ []) (uploads_in turns ++ rest))))
+    by (decide w.shape ROOM (records at) u) refl
+    (λ new s. stands_after w first turns (past ++ u ∷ []) new es rest s (split ∙ sym (append_assoc past (u ∷ []) (uploads_in turns ++ rest))))
   where
     one_more : length (past ++ u ∷ []) ≡ length past + 1
     one_more = length-append past (u ∷ [])
@@ -67,17 +69,21 @@ stands_after w first ((pass, u) ∷ turns) past at es rest old split is =
     here = ap (λ (x : List UploadData). slice_index_or x (length past) no_upload) split ∙ get_or-append_seam past u (uploads_in turns ++ rest) no_upload
 
     by : (d : Result (List Column) BookFault) → decide w.shape ROOM (records at) u ≡ d →
-        ((new : List Entry) → Stands w first (length (past ++ u ∷ [])) new → applied w.shape new turns ≡ Ok es → Stands w first (length (past ++ u ∷ []) + length turns) es) →
+        ((new : List Entry) → Stands w first (length (past ++ u ∷ [])) new → applied w.shape new turns ≡ Ok es →
+        Stands w first (length (past ++ u ∷ []) + length turns) es) →
         Stands w first (length past + suc (length turns)) es
     by (Err f) d next =
-        absurd (no_ok f es (sym (fault_stays w.shape f turns) ∙ ap (λ (r : Result (List Column) BookFault). fold (with_turn w.shape) (booked_by at pass u r) turns) (sym d) ∙ is))
+        absurd (no_ok f es (sym (fault_stays w.shape f turns)
+        ∙ ap (λ (r : Result (List Column) BookFault). fold (with_turn w.shape) (booked_by at pass u r) turns) (sym d) ∙ is))
     by (Ok new) d next =
         let count : length (past ++ u ∷ []) + length turns ≡ length past + suc (length turns) = omega (arith, one_more) in
         subst (λ n. Stands w first n es) count
-        (next (with_new at pass u new) (subst (λ n. Stands w first n (with_new at pass u new)) (sym one_more) (stands_next w first at (length past) u old low here new d pass))
+        (next (with_new at pass u new) (subst (λ n. Stands w first n (with_new at pass u new)) (sym one_more)
+        (stands_next w first at (length past) u old low here new d pass))
         (ap (λ (r : Result (List Column) BookFault). fold (with_turn w.shape) (booked_by at pass u r) turns) (sym d) ∙ is))
 
-stands : (w : Scenario) (first : List Entry) (turns : List Turn) (es : List Entry) (rest : List UploadData) → HasApplied w first turns es rest → Stands w first (length turns) es
+stands : (w : Scenario) (first : List Entry) (turns : List Turn) (es : List Entry) (rest : List UploadData) → HasApplied w first turns es rest →
+    Stands w first (length turns) es
 stands w first turns es rest is =
     let none : 0 + length turns ≡ length turns = omega arith in
     subst (λ n. Stands w first n es) none (stands_after w first turns [] first es rest start is.split is.taken)
@@ -91,6 +97,32 @@ stands w first turns es rest is =
       held = λ p below. absurd (omega (arith, below));
       among = λ i r h. absurd (cc h);
     }
+
+-- ---- one turn more
+
+stored_is : (es : List Entry) (pass : ℕ) (u : UploadData) (cs : List Column) → 1 ≤ length cs → with_new es pass u cs ≡ es ++ entry_with pass u cs ∷ []
+stored_is es pass u [] some = absurd (omega (arith, some))
+stored_is es pass u (c ∷ cs) some = refl
+
+module _ (w : Scenario) (first : List Entry) (turns : List Turn) (es : List Entry) (pass : ℕ) (u : UploadData) (rest : List UploadData)
+    (is : HasApplied w first turns es (u ∷ rest)) where
+  step : (new : List Column) → decide w.shape ROOM (records es) u ≡ Ok new → HasApplied w first (turns ++ (pass, u) ∷ []) (with_new es pass u new) rest
+  step new decides = record {
+    split = is.split ∙ sym (append_assoc (uploads_in turns) (u ∷ []) rest)
+        ∙ ap (λ (x : List UploadData). x ++ rest) (sym (map-append (λ (t : Turn). t.1) turns ((pass, u) ∷ [])));
+    taken = fold-append (with_turn w.shape) (Ok first) turns ((pass, u) ∷ []) ∙ ap (λ (r : Came). with_turn w.shape r (pass, u)) is.taken
+        ∙ ap (λ (r : Result (List Column) BookFault). booked_by es pass u r) decides;
+  }
+
+  -- by what a journal answers: all columns of the upload are known, or its record is stored
+  pub known : decide w.shape ROOM (records es) u ≡ Ok [] → HasApplied w first (turns ++ (pass, u) ∷ []) es rest
+  known decides = step [] decides
+
+  pub stored : decide w.shape ROOM (records es) u ≡ Ok (stored_entry pass es u).stored.columns → 1 ≤ length (stored_entry pass es u).stored.columns →
+      HasApplied w first (turns ++ (pass, u) ∷ []) (es ++ stored_entry pass es u ∷ []) rest
+  stored decides some =
+      subst (λ (x : List Entry). HasApplied w first (turns ++ (pass, u) ∷ []) x rest) (stored_is es pass u (new_columns (content es) u.columns) some)
+      (step (new_columns (content es) u.columns) decides)
 
 -- ---- what holds then
 
@@ -117,15 +149,12 @@ module _ (w : Scenario) (first : List Entry) (turns : List Turn) (es : List Entr
   list_legal : (n : ℕ) (l : List Entry) → Stands w first n l → IsLegal in_order w (records first) (records l)
   list_legal n l s = record { more = s.more; begins = s.is; each = s.legal }
 
-  stored_is : (pass : ℕ) (u : UploadData) (cs : List Column) → 1 ≤ length cs → with_new es pass u cs ≡ es ++ entry_with pass u cs ∷ []
-  stored_is pass u [] some = absurd (omega (arith, some))
-  stored_is pass u (c ∷ cs) some = refl
-
   -- with the record of the next upload
-  next_legal : (pass : ℕ) (u : UploadData) (more : List UploadData) → rest ≡ u ∷ more → decide w.shape ROOM (records es) u ≡ Ok (stored_entry pass es u).stored.columns →
+  next_legal : (pass : ℕ) (u : UploadData) (more : List UploadData) → rest ≡ u ∷ more →
+      decide w.shape ROOM (records es) u ≡ Ok (stored_entry pass es u).stored.columns →
       1 ≤ length (stored_entry pass es u).stored.columns → IsLegal in_order w (records first) (records (es ++ stored_entry pass es u ∷ []))
   next_legal pass u more next decides some =
-      subst (λ (x : List Entry). IsLegal in_order w (records first) (records x)) (stored_is pass u (new_columns (content es) u.columns) some)
+      subst (λ (x : List Entry). IsLegal in_order w (records first) (records x)) (stored_is es pass u (new_columns (content es) u.columns) some)
       (list_legal (length turns + 1) (with_new es pass u (new_columns (content es) u.columns))
       (stands_next w first es (length turns) u now (next_low u more next) (next_is u more next) (new_columns (content es) u.columns) decides pass))
 
@@ -133,12 +162,14 @@ module _ (w : Scenario) (first : List Entry) (turns : List Turn) (es : List Entr
   acked = record {
     held = λ h q declared sent yes_.
         let placed = placed_at w h q declared sent in
-        subst (λ (x : UploadData). All (IsHeld (content es)) x.columns) placed.is (now.held (count_before w h + q) (ltb-true (count_before w h + q) (length turns) yes_));
+        subst (λ (x : UploadData). All (IsHeld (content es)) x.columns) placed.is
+        (now.held (count_before w h + q) (ltb-true (count_before w h + q) (length turns) yes_));
     answered = λ i r far h.
         let j : ℕ = i - length (records first) in
         let place : i ≡ length (records first) + j = omega (arith, far) in
         let there : slice_get now.more j ≡ Some r =
-        sym (get_right (records first) now.more j) ∙ ap (λ n. slice_get (records first ++ now.more) n) (sym place) ∙ ap (λ (x : List UploadData). slice_get x i) (sym now.is) ∙ h in
+        sym (get_right (records first) now.more j) ∙ ap (λ n. slice_get (records first ++ now.more) n) (sym place)
+        ∙ ap (λ (x : List UploadData). slice_get x i) (sym now.is) ∙ h in
         let a = now.among j r there in
         record { at = a.at; declared = a.declared; sent = a.sent; host = a.host; told = λ keeps. lt-ltb (count_before w a.at + r.seq) (length turns) a.place };
   }
@@ -149,7 +180,8 @@ module _ (w : Scenario) (first : List Entry) (turns : List Turn) (es : List Entr
       let size = ap length none in
       subst (All (IsHeld (content es))) (columns_are w)
       (all_flat (IsHeld (content es)) (λ (u : UploadData). u.columns) (uploads_of w)
-      (All-from_get_or (λ (u : UploadData). All (IsHeld (content es)) u.columns) (uploads_of w) no_upload (λ p below. now.held p (omega (arith, below, all, size)))))
+      (All-from_get_or (λ (u : UploadData). All (IsHeld (content es)) u.columns) (uploads_of w) no_upload
+      (λ p below. now.held p (omega (arith, below, all, size)))))
 
   caused : IsWhole w → HasKeysOnce (records first) → (u : UploadData) (more : List UploadData) (fault : BookFault) → rest ≡ u ∷ more →
       decide w.shape ROOM (records es) u ≡ Err fault → IsCaused w (records first) fault
@@ -158,7 +190,7 @@ module _ (w : Scenario) (first : List Entry) (turns : List Turn) (es : List Entr
       refusals.law in_order w (records first) (records es) whole once (list_legal (length turns) es now) s.at s.seq fault s.declared s.sent
       (subst (λ (x : UploadData). decide w.shape ROOM (records es) x ≡ Err fault) (sym (next_is u more next) ∙ s.is) refused)
 
-  grown : IsGrown in_order w (records first) (records es)
+  grown : HasGrown in_order w (records first) (records es)
   grown = growing.law in_order w (records first) (records es) (list_legal (length turns) es now)
 
   -- where the records are those of the start, so are the entries
@@ -189,19 +221,22 @@ module _ (w : Scenario) (first : List Entry) (turns : List Turn) (es : List Entr
 
 -- ---- the first upload that is refused
 
-first_refused : (shape : Shape) (es : List Entry) (turns : List Turn) (fault : BookFault) → applied shape es turns ≡ Err fault → IsFirstRefused shape es turns fault
+first_refused : (shape : Shape) (es : List Entry) (turns : List Turn) (fault : BookFault) → applied shape es turns ≡ Err fault →
+    IsFirstRefused shape es turns fault
 first_refused shape es [] fault h = absurd (no_err fault es h)
 first_refused shape es ((pass, u) ∷ turns) fault h =
     by (decide shape ROOM (records es) u) refl (λ new g. first_refused shape new turns fault g)
   where
-    turned : (r : Result (List Column) BookFault) → decide shape ROOM (records es) u ≡ r → (ts : List Turn) → applied shape es ((pass, u) ∷ ts) ≡ fold (with_turn shape) (booked_by es pass u r) ts
+    turned : (r : Result (List Column) BookFault) → decide shape ROOM (records es) u ≡ r → (ts : List Turn) →
+        applied shape es ((pass, u) ∷ ts) ≡ fold (with_turn shape) (booked_by es pass u r) ts
     turned r d ts = ap (λ (x : Result (List Column) BookFault). fold (with_turn shape) (booked_by es pass u x) ts) d
 
     by : (r : Result (List Column) BookFault) → decide shape ROOM (records es) u ≡ r →
         ((new : List Entry) → applied shape new turns ≡ Err fault → IsFirstRefused shape new turns fault) → IsFirstRefused shape es ((pass, u) ∷ turns) fault
     by (Err f) d next =
         let same : f ≡ fault = err_same f fault (sym (fault_stays shape f turns) ∙ sym (turned (Err f) d turns) ∙ h) in
-        record { front = []; next = (pass, u); rest = turns; split = refl; entries = es; taken = refl; refused = subst (λ x. decide shape ROOM (records es) u ≡ Err x) same d }
+        let refused = subst (λ x. decide shape ROOM (records es) u ≡ Err x) same d in
+        record { front = []; next = (pass, u); rest = turns; split = refl; entries = es; taken = refl; refused = refused }
     by (Ok new) d next =
         let r = next (with_new es pass u new) (sym (turned (Ok new) d turns) ∙ h) in
         record {
@@ -219,11 +254,7 @@ first_refused shape es ((pass, u) ∷ turns) fault h =
 pub law : LawOfTurns
 law = record {
   start = λ w first. record { split = refl; taken = refl };
-  step = λ w first turns es u rest pass new is decides. record {
-    split = is.split ∙ sym (append_assoc (uploads_in turns) (u ∷ []) rest) ∙ ap (λ (x : List UploadData). x ++ rest) (sym (map-append (λ (t : Turn). t.1) turns ((pass, u) ∷ [])));
-    taken = fold-append (with_turn w.shape) (Ok first) turns ((pass, u) ∷ []) ∙ ap (λ (r : Came). with_turn w.shape r (pass, u)) is.taken
-        ∙ ap (λ (r : Result (List Column) BookFault). booked_by es pass u r) decides;
-  };
+  step = λ w first turns es u rest pass new is decides. step w first turns es pass u rest is new decides;
   holds = in_turn;
   refused = first_refused;
 }

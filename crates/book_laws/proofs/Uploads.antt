@@ -68,7 +68,8 @@ placed_at w h q declared sent =
     let hosts = enumerate_from 0 w.hosts in
     let there = host_there w h declared in
     let many = length-enumerate_from 0 w.hosts in
-    let f = flat_at (host_uploads w) hosts h q (0, no_host) no_upload (omega (arith, declared, many)) (subst (λ (x : ℕ × HostLine). q < length (host_uploads w x)) (sym there) sent) in
+    let f = flat_at (host_uploads w) hosts h q (0, no_host) no_upload (omega (arith, declared, many))
+    (subst (λ (x : ℕ × HostLine). q < length (host_uploads w x)) (sym there) sent) in
     record { inside = f.inside; is = f.is ∙ ap (λ (x : ℕ × HostLine). slice_index_or (host_uploads w x) q no_upload) there }
 
 -- the upload at place p is one of a host
@@ -110,11 +111,13 @@ count_rises w h i low = offset_rises (host_uploads w) (enumerate_from 0 w.hosts)
 
 -- ---- the columns
 
-numbered_columns : (host k : ℕ) (ps : List Piece) → columns_in (map (λ (p : ℕ × Piece). upload_of host p.0 p.1) (enumerate_from k ps)) ≡ flat_map (λ (p : Piece). p) ps
+numbered_columns : (host k : ℕ) (ps : List Piece) →
+    columns_in (map (λ (p : ℕ × Piece). upload_of host p.0 p.1) (enumerate_from k ps)) ≡ flat_map (λ (p : Piece). p) ps
 numbered_columns host k [] = refl
 numbered_columns host k (p ∷ ps) = ap (λ (cs : List Column). p ++ cs) (numbered_columns host (k + 1) ps)
 
-host_columns : (w : Scenario) (k : ℕ) (hs : List HostLine) → columns_in (flat_map (host_uploads w) (enumerate_from k hs)) ≡ flat_map (brought w (picked w)) (range_with_len k (length hs))
+host_columns : (w : Scenario) (k : ℕ) (hs : List HostLine) →
+    columns_in (flat_map (host_uploads w) (enumerate_from k hs)) ≡ flat_map (brought w (picked w)) (range_with_len k (length hs))
 host_columns w k [] = refl
 host_columns w k (h ∷ hs) =
     flat_map-append (λ (u : UploadData). u.columns) (host_uploads w (k, h)) (flat_map (host_uploads w) (enumerate_from (k + 1) hs))
@@ -124,7 +127,8 @@ pub columns_are : (w : Scenario) → columns_in (uploads_of w) ≡ brought_to_al
 columns_are w = host_columns w 0 w.hosts
 
 -- each column of an upload is brought
-pub own_columns : (w : Scenario) (h q : ℕ) → h < length w.hosts → q < length (uploads_at w h) → All (Contains (brought_to_all w (picked w))) (upload_at w h q).columns
+pub own_columns : (w : Scenario) (h q : ℕ) → h < length w.hosts → q < length (uploads_at w h) →
+    All (Contains (brought_to_all w (picked w))) (upload_at w h q).columns
 own_columns w h q declared sent = λ k d inside.
     let p = placed_at w h q declared sent in
     let c : Column = slice_index_or (upload_at w h q).columns k d in
@@ -134,8 +138,11 @@ own_columns w h q declared sent = λ k d inside.
 
 -- and each brought column is of the size of the scenario's sketches
 pub brought_sized : (w : Scenario) → All (λ (c : Column). c.dims ≡ dims_of w.shape) (brought_to_all w (picked w))
-brought_sized w = each_flat (λ (c : Column). c.dims ≡ dims_of w.shape) (brought w (picked w)) (range_with_len 0 (length w.hosts)) (λ h. brought_dims w (picked w) h)
+brought_sized w = each_flat (λ (c : Column). c.dims ≡ dims_of w.shape) (brought w (picked w)) (range_with_len 0 (length w.hosts))
+    (λ h. brought_dims w (picked w) h)
 
-pub own_sized : (w : Scenario) (h q : ℕ) → h < length w.hosts → q < length (uploads_at w h) → All (λ (c : Column). c.dims ≡ dims_of w.shape) (upload_at w h q).columns
+pub own_sized : (w : Scenario) (h q : ℕ) → h < length w.hosts → q < length (uploads_at w h) →
+    All (λ (c : Column). c.dims ≡ dims_of w.shape) (upload_at w h q).columns
 own_sized w h q declared sent = λ k d inside.
-    All-contains (λ (c : Column). c.dims ≡ dims_of w.shape) (brought_to_all w (picked w)) (slice_index_or (upload_at w h q).columns k d) (brought_sized w) (own_columns w h q declared sent k d inside)
+    All-contains (λ (c : Column). c.dims ≡ dims_of w.shape) (brought_to_all w (picked w)) (slice_index_or (upload_at w h q).columns k d)
+    (brought_sized w) (own_columns w h q declared sent k d inside)

@@ -23,9 +23,10 @@ use Rattle.book_laws.specs.Turns.{Turn, applied, IsFirstRefused, HasApplied, cou
 
 -- ---- legal lists
 
--- What a legal list has. Each list from the one that was found up to it is legal too. What was found stays, and what was
--- added is brought. With all that is brought it is the join; and where all of that was there before, nothing is added.
-pub record IsGrown (order : Order) (w : Scenario) (before list : List UploadData) : Type 0 where
+-- What a legal list has. Each list from the one that was found up to it is legal too. What was found stays, what was
+-- added is brought, and no key comes twice. With all that is brought it is the join; and where all of that was found,
+-- nothing is added.
+pub record HasGrown (order : Order) (w : Scenario) (before list : List UploadData) : Type 0 where
   pub begins : IsPrefix before list
   pub fronts : (l : List UploadData) → IsPrefix before l → IsPrefix l list → IsLegal order w before l
   pub stays : (c : Column) → IsHeld (content_in before) c → IsHeld (content_in list) c
@@ -36,7 +37,7 @@ pub record IsGrown (order : Order) (w : Scenario) (before list : List UploadData
 
 abbrev pub LawOfLegalLists : Type 0
 LawOfLegalLists = (order : Order) (w : Scenario) (before list : List UploadData) → IsLegal order w before list
-    → IsGrown order w before list
+    → HasGrown order w before list
 
 -- Where an upload is refused after a legal list, the cause lies between the list that was found and what is brought.
 abbrev pub LawOfRefusals : Type 0
@@ -53,7 +54,8 @@ LawOfTrueLists = (order : Order) (w : Scenario) (before : List UploadData) → I
 
 -- A file stands for at most one list under a shape, and for one in which no key stands twice.
 pub record LawOfStanding : Type 0 where
-  pub one : (shape : Shape) (file : List ℕ) (l m : List UploadData) → StandsFor shape l file → StandsFor shape m file → l ≡ m
+  pub one : (shape : Shape) (file : List ℕ) (l m : List UploadData)
+      → StandsFor shape l file → StandsFor shape m file → l ≡ m
   pub once : (shape : Shape) (file : List ℕ) (l : List UploadData) → StandsFor shape l file → HasKeysOnce l
 
 -- What a run leaves on these sets of files, it leaves file by file.
@@ -64,10 +66,10 @@ LawOfFilesLeft was now since = (order : Order) (w : Scenario) (before kept full 
 
 -- ---- uploads in turn
 
--- What holds after the first uploads of a scenario were applied in turn. The list is legal, and stays so with the record of
--- the next upload, which is there where a call of the disk failed in storing it. Those that were applied are acknowledged.
--- After the last one all that is brought is there; where it was there before, nothing is added. Where the next upload is
--- refused, the cause is that of the law of refusals.
+-- What holds after the first uploads of a scenario were applied in turn. The list is legal, and stays so with the
+-- record of the next upload, which may be on the disk where a call of it failed. The uploads that were applied are
+-- acknowledged. After the last one all that is brought is there; where all of it was found, nothing is added. Where
+-- the next upload is refused, the cause is that of the law of refusals.
 pub record IsInTurn (w : Scenario) (first : List Entry) (turns : List Turn) (es : List Entry)
     (rest : List UploadData) : Type 0 where
   pub begins : IsPrefix first es

@@ -24,9 +24,9 @@ pub record IsBetween (stands : Standing) (least most : List UploadData) (file : 
 abbrev pub IsSettled : Standing → List UploadData → Files → Type 0
 IsSettled stands list images = (c : List ℕ) → images c → stands list c
 
--- What a run leaves, from the list `before` that it found. `kept` is what a crash now leaves; or `full`, which has one
--- record more at most. A crash at an earlier moment left what it might have left before the run, or a list from `before`
--- up to `full`. `full` is legal, so all these are.
+-- What a run leaves, from the list `before` that it found. A crash now leaves `kept`; or `full`, which has one record
+-- more at most. A crash at a moment of the run left what it might have left before the run, or a list from `before` up
+-- to `full`; from a settled disk, only that. `full` is legal, and with it all these lists are.
 pub record IsLeft (stands : Standing) (order : Order) (w : Scenario) (before : List UploadData) (was now since : Files)
     (kept full : List UploadData) : Type 0 where
   pub legal : IsLegal order w before full
@@ -37,9 +37,9 @@ pub record IsLeft (stands : Standing) (order : Order) (w : Scenario) (before : L
   pub moments : (c : List ℕ) → since c → was c ⊎ IsBetween stands before full c
   pub settled : IsSettled stands before was → (c : List ℕ) → since c → IsBetween stands before full c
 
--- The same, said of whatever list a file stands for. A file is one that a crash might have left before the run, or stands
--- for a legal list. From a settled disk all lists are legal; of any two, one begins with the other; and none has more than
--- one record beyond a list that stands on the disk now.
+-- The same, said of whatever list a file stands for. A file that a crash leaves is one that it might have left before
+-- the run, or stands for a legal list. From a settled disk every list is legal; of any two, one begins with the other;
+-- and none has more than one record beyond a list that a crash now leaves.
 pub record IsLeftByFiles (stands : Standing) (order : Order) (w : Scenario) (before : List UploadData)
     (was now since : Files) : Type 0 where
   pub each : (c : List ℕ) → since c → was c ⊎ ((l : List UploadData) × stands l c × IsLegal order w before l)

@@ -33,7 +33,8 @@ upload_at w h q = slice_index_or (uploads_at w h) q no_upload
 
 -- ---- the order of deliveries
 
--- The numbers of n uploads in the order in which a link with these letters delivers them. A number may come more than once.
+-- The numbers of n uploads in the order in which a link with these letters delivers them. A number may come more than
+-- once.
 abbrev pub Order : Type 0
 Order = (n : ℕ) → List Letter → List ℕ
 
@@ -54,8 +55,8 @@ before_first q ns = take_while (λ n. not (n == q)) ns
 abbrev pub IsApart : UploadData → UploadData → Type 0
 IsApart r u = All (λ (c : Column). holds_key c.key u.columns ≡ false) r.columns
 
--- A record that a run may store after these: the new columns of an upload of a host, which is taken then, under its host
--- and number; and no column of an upload that is delivered before it.
+-- A record that a run may store after these: what is new of an upload of a host then, under its host and number. None
+-- of its columns stands in an upload of that host that is delivered before.
 pub record IsLegalNext (order : Order) (w : Scenario) (before : List UploadData) (r : UploadData) : Type 0 where
   pub at : ℕ
   pub declared : at < length w.hosts

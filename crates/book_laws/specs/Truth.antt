@@ -15,15 +15,15 @@ use Rattle.book_laws.specs.Keeping.{IsJoined}
 abbrev pub NoneFound : Scenario → List UploadData → Ask → Type 0
 NoneFound w l q = (i : ℕ) → i < w.shape.rows → All (λ (c : Column). c.key ≢ place_key w q i) (columns_in l)
 
--- The answer of the list after a run is true; and no row is known exactly where of none a column was in the list that was
--- found and of none one arrived.
+-- The answer of the list after a run is true. No row is known exactly where the list that was found had a column of
+-- none and none arrived.
 pub record IsTrueAfter (w : Scenario) (before list : List UploadData) (q : Ask) : Type 0 where
   pub is : IsTrueIn w (content_in list) q
   pub unknown : (answered (content_in list) w q).rows_known ≡ 0 ↔ (NoneFound w before q × NoneArrived w q)
 
--- What is true of a run from the list that was found. Each column that a legal list adds is its switch's frozen one. Where
--- the list that was found agrees with the scenario, so does each legal list; and then each answer of the report on a list
--- that has all that is brought is true.
+-- What is true of a run from the list `before` that it found. Each column that a legal list adds is its switch's
+-- frozen one. Where `before` agrees with the scenario, so does each legal list; and then each answer of the report is
+-- true, on a list that has all that is brought.
 pub record IsTrueFrom (order : Order) (w : Scenario) (before : List UploadData) : Type 0 where
   pub added : (l : List UploadData) → IsLegal order w before l
       → All (IsFrozenColumn w) (columns_in (drop (length before) l))

@@ -5,15 +5,15 @@ ghost use Rattle.book_laws.specs.Rows.{WorkedBooks};
 
 use lg_disk::Disk;
 
-/// The law of legal lists: each list from the one that was found up to a legal one is legal. What was found stays, what
-/// was added is brought, and no key comes twice. With all that is brought the content is the join; and where all of that
-/// was found, nothing is added (docs/DEFINITIONS.md, Runs over a book).
+/// The law of legal lists: each list from the one that was found up to a legal one is legal. What was found stays,
+/// what was added is brought, and no key comes twice. With all that is brought the content is the join of both; and
+/// where all of that was found, nothing is added (docs/DEFINITIONS.md, Runs over a book).
 pub fn legal_lists_grow()
     ensures { LawOfLegalLists }
 {}
 
-/// The law of refusals: where an upload of a run is refused after a legal list, a brought column differs from one that was
-/// found, or the keys of both are more than a book has room for. It is never the size of a column.
+/// The law of refusals: where an upload of a run is refused after a legal list, a brought column differs from one that
+/// was found, or the keys of both are more than a book has room for. The size of a column is never the cause.
 pub fn refusals_have_causes()
     ensures { LawOfRefusals }
 {}
@@ -29,8 +29,8 @@ pub fn files_stand_for_one_list()
     ensures { LawOfStanding }
 {}
 
-/// What a run leaves on a disk, said of each file that a crash may leave: it is legal, of any two lists one begins with the
-/// other, and none has more than one record beyond a list that stands there now.
+/// What a run leaves on a disk, said of each file that a crash may leave. Its list is legal; of any two lists, one
+/// begins with the other; and none has more than one record beyond a list that a crash now leaves.
 pub fn files_left_are_legal<D: Disk>(old: &D, new: &D)
     ensures { LawOfFilesLeft (D.images old.now) (D.images new.now) (D.since new.now (D.moment old.now)) }
 {
@@ -38,15 +38,16 @@ pub fn files_left_are_legal<D: Disk>(old: &D, new: &D)
     let _ = new;
 }
 
-/// The law of turns: the uploads of a scenario, applied one after the other, keep the list legal. Those that were applied
-/// are acknowledged. After the last one all that is brought is there. Where one is refused, the cause is that of the law of
-/// refusals. Those that were applied are all of some hosts, and the first ones of the host after them.
+/// The law of turns: the uploads of a scenario, applied one after the other, keep the list legal. Those that were
+/// applied are acknowledged, and after the last one all that is brought is there. Where one is refused, the cause is
+/// that of the law of refusals. Those applied before are all of the earlier hosts and the first ones of the refused
+/// one's host.
 pub fn turns_are_legal()
     ensures turns { LawOfTurns }
     ensures counts { LawOfCounts }
 {}
 
-/// Two worked runs: their uploads, the lists that they leave, and two lists that no run of them leaves.
+/// Worked runs: their uploads, the lists that they leave, two lists that no run of them leaves, and a clash.
 pub fn worked_books()
     ensures { WorkedBooks }
 {}

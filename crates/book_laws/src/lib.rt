@@ -8,7 +8,7 @@
 //! | [`files_stand_for_one_list`] | the law: a file stands for one list, with no key twice |
 //! | [`files_left_are_legal`] | the law: what a run leaves on a disk, file by file |
 //! | [`turns_are_legal`] | the law: what holds of uploads that are applied one after the other |
-//! | [`worked_books`] | two worked runs |
+//! | [`worked_books`] | worked runs: uploads, legal lists and others, a clash |
 #![tactic(auto)]
 
 mod laws;

@@ -1,5 +1,6 @@
 -- Where a run stands after its first uploads, and after one more.
-use Rattle.std.specs.Prelude.{◌≡◌, ℕ, zero, suc, ◌+◌, ◌<◌, ◌≤◌, ◌==◌, not, Bool, true, false, cond, List, [], ◌∷◌, ◌++◌, length, fold, All, Some, None, Ok, slice_index_or}
+use Rattle.std.specs.Prelude.{◌≡◌, ℕ, zero, suc, ◌+◌, ◌<◌, ◌≤◌, ◌==◌, not, Bool, true, false}
+use Rattle.std.specs.Prelude.{cond, List, [], ◌∷◌, ◌++◌, length, fold, All, Some, None, Ok, slice_index_or}
 use Rattle.std.specs.List.{range_with_len, slice_get}
 use Rattle.std.proofs.Common.{refl, sym, ap, ◌∙◌, subst, arith, inl, inr, append_assoc}
 use Rattle.std.proofs.lemmas.List.{map-append}
@@ -45,16 +46,20 @@ early q a (suc n) low =
 
     by : (a + 1 ≤ q → All Low (before_first q later)) → All Low (cond (not (a == q)) (a ∷ before_first q later) [])
     by rest = elim (eqb_tells a q) as (λ _. All Low (cond (not (a == q)) (a ∷ before_first q later) [])) [
-      | inl same ↦ All-same Low (cond (not (a == q)) (a ∷ before_first q later) []) [] (ap (λ b. cond (not b) (a ∷ before_first q later) []) same.0) (All-nil Low)
+      | inl same ↦ All-same Low (cond (not (a == q)) (a ∷ before_first q later) []) [] (ap (λ b. cond (not b) (a ∷ before_first q later) []) same.0)
+          (All-nil Low)
       | inr other ↦
           let far = other.1 in
-          All-same Low (cond (not (a == q)) (a ∷ before_first q later) []) (a ∷ before_first q later) (ap (λ b. cond (not b) (a ∷ before_first q later) []) other.0)
+          All-same Low (cond (not (a == q)) (a ∷ before_first q later) []) (a ∷ before_first q later)
+          (ap (λ b. cond (not b) (a ∷ before_first q later) []) other.0)
           (All-cons Low a (before_first q later) (omega (arith, low, far)) (rest (omega (arith, low, far))))
     ]
 
 -- columns that the content lacks have no key of an upload that it holds
-apart : (m : Content) (new : List Column) (r u : UploadData) → r.columns ≡ new → All (λ (c : Column). found m c.key ≡ None) new → All (IsHeld m) u.columns → IsApart r u
-apart m new r u is none held = All-same Free r.columns new is (All-weaker (λ (c : Column). found m c.key ≡ None) Free (λ c lacks. free c lacks (holds_key c.key u.columns) refl) new none)
+apart : (m : Content) (new : List Column) (r u : UploadData) → r.columns ≡ new → All (λ (c : Column). found m c.key ≡ None) new →
+    All (IsHeld m) u.columns → IsApart r u
+apart m new r u is none held = All-same Free r.columns new is
+    (All-weaker (λ (c : Column). found m c.key ≡ None) Free (λ c lacks. free c lacks (holds_key c.key u.columns) refl) new none)
   where
     Free : Column → Type 0
     Free c = holds_key c.key u.columns ≡ false
@@ -86,7 +91,8 @@ pub record Stands (w : Scenario) (first : List Entry) (n : ℕ) (es : List Entry
   pub among : (i : ℕ) (r : UploadData) → slice_get more i ≡ Some r → IsAmong w n r
 
 -- the records after an upload that is taken
-records_new : (es : List Entry) (pass : ℕ) (u : UploadData) (c : Column) (cs : List Column) → records (with_new es pass u (c ∷ cs)) ≡ records es ++ upload_of u.host u.seq (c ∷ cs) ∷ []
+records_new : (es : List Entry) (pass : ℕ) (u : UploadData) (c : Column) (cs : List Column) →
+    records (with_new es pass u (c ∷ cs)) ≡ records es ++ upload_of u.host u.seq (c ∷ cs) ∷ []
 records_new es pass u c cs = map-append (λ (e : Entry). e.stored) es (entry_with pass u (c ∷ cs) ∷ [])
 
 content_new : (es : List Entry) (pass : ℕ) (u : UploadData) (new : List Column) → content (with_new es pass u new) ≡ fold with_column (content es) new
@@ -112,7 +118,8 @@ module _ (w : Scenario) (first es : List Entry) (n : ℕ) (u : UploadData) (old 
     | inr last ↦
         let here : n ≡ p = omega (arith, below, last) in
         let whole = subst (λ (x : UploadData). IsUpload x.columns) (sym same) (numbered_at w its.at its.seq its.sent).whole in
-        subst (λ (x : UploadData). All (IsHeld (content (with_new es pass u new))) x.columns) (sym is ∙ ap (λ (k : ℕ). slice_index_or (uploads_of w) k no_upload) here)
+        subst (λ (x : UploadData). All (IsHeld (content (with_new es pass u new))) x.columns)
+        (sym is ∙ ap (λ (k : ℕ). slice_index_or (uploads_of w) k no_upload) here)
         (subst (λ (m : Content). All (IsHeld m) u.columns) (sym (content_new es pass u new))
         (taken_holds (records es) u new (taken_in w.shape ROOM (records es) u new decides) whole))
   ]
