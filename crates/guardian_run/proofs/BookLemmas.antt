@@ -14,11 +14,10 @@ use Rattle.sketchlet_wire.specs.Uploads.{UploadData}
 use Rattle.column_book.specs.declared.entry.Entry.{Entry}
 use Rattle.column_book.specs.declared.fault.BookFault.{BookFault}
 use Rattle.column_book.specs.declared.book.TheConstants.{ROOM}
-use Rattle.column_book.specs.Entries.{BookState, records, content}
+use Rattle.column_book.specs.Entries.{BookState, records}
 use Rattle.column_book.specs.Applying.{checked, stored_entry, after_decision, IsAddable}
 use Rattle.column_book.proofs.Applying.{law}
 use Rattle.scenario_parts.specs.Whole.{IsWhole}
-use Rattle.run_laws.specs.Truth.{book_of}
 use Rattle.run_laws.specs.Booking.{host_uploads, booked_by, with_upload, booked_in, booked, IsBooking, LawOfBookings}
 use Rattle.guardian_run.specs.declared.booking.BookingFault.{BookingFault}
 use Rattle.guardian_run.specs.declared.booking.BookingFault.TheVariants as faults

@@ -1,5 +1,5 @@
 -- How a call ends follows from what the command gave and what was done with it.
-use Rattle.std.specs.Prelude.{◌≡◌, ◌⊎◌, ◌↔◌, ℕ, ◌≤◌, Bool, true, false, List, Option, Some, None, IfSome, IfOk, IfErr, IsOk, Result, Ok, Err}
+use Rattle.std.specs.Prelude.{◌≡◌, ◌⊎◌, ℕ, ◌≤◌, Bool, true, false, List, Option, Some, None, IfSome, IfOk, IfErr, Result, Ok, Err}
 use Rattle.std.proofs.Common.{refl, sym, ap, ◌∙◌, subst, inl, inr}
 use Rattle.scenario_lines.specs.declared.why.Why.TheVariants.{NoDone}
 use Rattle.lg_model.specs.Scenario.{Scenario}
@@ -19,7 +19,7 @@ use Rattle.guardian_run.specs.Outcomes.{Outcome, Runs, Captures, Lists, Rebuilds
 use Rattle.guardian_run.specs.Giving.{IsUnread, GivesOfText, IsUnlooked, GivesOfFile, IsFree, IsTrueFile, IsTrueOutput, Draws, Gives}
 use Rattle.report_text.specs.Faults.{usage_line, read_fault_line, disk_fault_line, no_memory_line}
 use Rattle.guardian_run.specs.Ends.{IsOutputEnd, IsStatusOf, IsAnswered, Puts, Ends}
-use Rattle.guardian_run.specs.Ending.{EndsWith, EndsWithLine, TakesMemory, EndsRefused}
+use Rattle.guardian_run.specs.Ending.{EndsWith, EndsWithLine, EndsRefused}
 use Rattle.guardian_run.proofs.OneOutcome.{one_outcome}
 
 -- ---- what an input says that is told, and anything else where it is not

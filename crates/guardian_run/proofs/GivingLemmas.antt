@@ -1,7 +1,6 @@
 -- What a command gives at each of its exits.
-use Rattle.std.specs.Prelude.{◌≡◌, ◌⊎◌, ℕ, ◌<◌, ◌≤◌, List, [], Option, Some, None, IfSome, IfOk, IfErr, IsOk, Result, Ok, Err}
-use Rattle.std.proofs.Common.{refl, sym, ap, ◌∙◌, subst, arith, inl, inr}
-use Rattle.lg_base.specs.Causes.{Rose}
+use Rattle.std.specs.Prelude.{◌≡◌, ◌⊎◌, ℕ, ◌≤◌, List, [], Option, Some, None, IfSome, IfErr, IsOk, Result, Ok, Err}
+use Rattle.std.proofs.Common.{refl, sym, ap, subst, arith, inl, inr}
 use Rattle.lg_model.specs.declared.scenario.Hash.TheVariants as hashes
 use Rattle.lg_model.specs.Placing.{Shape}
 use Rattle.lg_model.specs.Scenario.{Scenario}
@@ -10,20 +9,18 @@ use Rattle.lg_model.specs.Answer.{look_in}
 use Rattle.sketchlet_wire.specs.Uploads.{UploadData}
 use Rattle.sumax_sketch.specs.SketchState.{SketchState}
 use Rattle.scenario_parts.specs.Whole.{IsWhole}
-use Rattle.scenario_text.specs.Text.{Fault, reading, IsTaken, Answers, Took}
+use Rattle.scenario_text.specs.Text.{reading, IsTaken, Answers, Took}
 use Rattle.scenario_text.specs.declared.fault.ScenarioFault.{ScenarioFault}
 use Rattle.scenario_text.specs.declared.fault.ScenarioFault.TheVariants as text
 use Rattle.column_book.specs.declared.entry.Entry.{Entry}
-use Rattle.column_book.specs.declared.fault.BookFault.{BookFault}
 use Rattle.column_book.specs.declared.book.TheConstants.{ROOM}
 use Rattle.column_book.specs.Entries.{BookState, records, content, content_in, known_of}
 use Rattle.flow_query.specs.Rebuilt.{IsRebuilt}
 use Rattle.book_file.specs.declared.found.OpenFault.{OpenFault}
 use Rattle.book_file.specs.declared.found.OpenFault.TheVariants as file
-use Rattle.book_file.specs.File.{IsBlank, StandsFor}
-use Rattle.book_file.specs.Found.{Finds, count_of}
-use Rattle.book_journal.specs.Looking.{HasFound, Looks, FaultRose}
-use Rattle.run_laws.specs.Truth.{book_of, IsTrueRun, LawOfTrueBooks}
+use Rattle.book_file.specs.Found.{count_of}
+use Rattle.book_journal.specs.Looking.{HasFound, Looks}
+use Rattle.run_laws.specs.Truth.{IsTrueRun, LawOfTrueBooks}
 use Rattle.run_laws.specs.Booking.{booked}
 use Rattle.report_text.specs.Report.{report, columns_line}
 use Rattle.guardian_words.specs.declared.commands.Command.TheVariants as commands
@@ -33,9 +30,9 @@ use Rattle.guardian_run.specs.Changes.{Change, HasFailed, DiskChange, DiskHasFai
 use Rattle.guardian_run.specs.Booking.{IsRefusalOf}
 use Rattle.guardian_run.specs.Refusals.{refusal_of, file_refusal}
 use Rattle.guardian_run.specs.Outputs.{capture_of, list_of, sketch_of}
-use Rattle.guardian_run.specs.Outcomes.{Outcome, Runs, Captures, HasRecords, HasFault, Asks, Lists, Rebuilds, IsUnbuilt, Comes, reads_text}
+use Rattle.guardian_run.specs.Outcomes.{Outcome, Runs, Captures, HasRecords, HasFault, Asks, Lists, Rebuilds, IsUnbuilt, Comes}
 use Rattle.guardian_run.specs.Looking.{IsHeld, IsBookOf, IsFileRefusal, IsUnbuiltOf}
-use Rattle.guardian_run.specs.Giving.{IsFree, IsUnread, GivesOfText, IsUnlooked, GivesOfFile, IsTrueFile, Gives}
+use Rattle.guardian_run.specs.Giving.{IsFree, GivesOfText, IsUnlooked, GivesOfFile, IsTrueFile, Gives}
 use Rattle.guardian_run.proofs.EndLemmas.{said_by, said_is}
 
 -- what a `?` hands on

@@ -1,10 +1,9 @@
 -- What came to a host, column by column.
-use Rattle.std.specs.Prelude.{◌≡◌, ℕ, zero, suc, map, ◌+◌, ◌<◌, ◌≤◌, All, List, [], ◌∷◌, ◌++◌, length, take, fold, slice_index_or}
+use Rattle.std.specs.Prelude.{◌≡◌, ℕ, zero, suc, map, ◌+◌, ◌<◌, ◌≤◌, All, List, [], ◌∷◌, ◌++◌, length, take, slice_index_or}
 use Rattle.std.specs.List.{flat_map, range_with_len, enumerate_from}
 use Rattle.std.proofs.Common.{refl, sym, ap, ◌∙◌, arith, take_all, append-nil, append_assoc, zero-add}
 use Rattle.std.proofs.lemmas.List.{take_more, length-take}
 use Rattle.std.proofs.lemmas.List.FromFn.{map-range_with_len_more}
-use Rattle.std.proofs.lemmas.List.Sums.{fold_more, fold-append}
 use Rattle.std.proofs.lemmas.Grind.{flat_map-append}
 use Rattle.lg_model.specs.declared.scenario.HostLine.{HostLine}
 use Rattle.lg_model.specs.declared.limits.TheConstants.{MOST_SKETCHLET_BYTES}
@@ -13,7 +12,6 @@ use Rattle.lg_model.specs.Matching.{Matched}
 use Rattle.lg_model.specs.Carrying.{picked}
 use Rattle.lg_model.specs.Arriving.{brought}
 use Rattle.lg_model.specs.Columns.{Column}
-use Rattle.lg_model.specs.Answer.{Content, with_column, content_of}
 use Rattle.lg_model.proofs.Pairing.{matched_at, matched_length}
 use Rattle.lg_model.proofs.Tracing.{enumerate_from-append}
 use Rattle.sketchlet_wire.specs.declared.packed.Packed.{Packed}

@@ -1,5 +1,5 @@
 -- A call comes to one outcome at most.
-use Rattle.std.specs.Prelude.{◌≡◌, ◌≢◌, ◌⊎◌, ℕ, ◌<◌, List, [], Option, None, Some, IsSomeAnd, Result, Ok, Err, IsOk}
+use Rattle.std.specs.Prelude.{◌≡◌, ℕ, List, Option, None, Some, IsSomeAnd, Result, Ok, Err, IsOk}
 use Rattle.std.proofs.Common.{refl, sym, ap, ◌∙◌, subst, arith, inl, inr}
 use Rattle.lg_model.specs.declared.column.Bucket.{Bucket}
 use Rattle.lg_model.specs.Placing.{Shape}
@@ -28,13 +28,12 @@ use Rattle.book_file.specs.Found.{Suits, Finds}
 use Rattle.book_file.proofs.Law.{law, blank_law, not_blank}
 use Rattle.book_file.proofs.OneAnswer.{one_answer}
 use Rattle.book_file.proofs.Complete.{whole_law}
-use Rattle.guardian_words.specs.declared.commands.Command.{Command}
 use Rattle.guardian_words.specs.declared.commands.Command.TheVariants as commands
 use Rattle.guardian_run.specs.declared.refusal.Refusal.{Refusal}
 use Rattle.guardian_run.specs.declared.refusal.Refusal.TheVariants as refusals
 use Rattle.guardian_run.specs.Refusals.{file_refusal}
 use Rattle.guardian_run.specs.Outputs.{list_of, sketch_of}
-use Rattle.guardian_run.specs.Outcomes.{Outcome, Runs, HasRecords, HasFault, Asks, IsListing, Lists, IsRebuilding, IsMissing, IsUnbuilt, Rebuilds, WithScenario, Comes, LawOfOutcomes, known_in}
+use Rattle.guardian_run.specs.Outcomes.{Outcome, Runs, HasRecords, HasFault, Asks, Lists, IsRebuilding, IsMissing, IsUnbuilt, Rebuilds, WithScenario, LawOfOutcomes, known_in}
 
 -- ---- a refused file
 

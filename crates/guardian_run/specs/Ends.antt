@@ -1,5 +1,5 @@
 -- How the program ends: what it answers and why, what it writes, and what it does to its source and its sink.
-use Rattle.std.specs.Prelude.{◌≡◌, ◌⊎◌, ◌↔◌, ℕ, ◌≤◌, true, List, Option, Some, None, IfSome, Result, Ok, Err}
+use Rattle.std.specs.Prelude.{◌≡◌, ◌⊎◌, ◌↔◌, ℕ, ◌≤◌, true, List, Option, None, IfSome, Result, Ok, Err}
 use Rattle.lg_model.specs.Scenario.{Scenario}
 use Rattle.scenario_text.specs.Text.{Fault, reading}
 use Rattle.report_text.specs.Faults.{read_fault_line, disk_fault_line, no_memory_line}

@@ -1,5 +1,5 @@
 -- What a command has done and found when it gives its output or its refusal.
-use Rattle.std.specs.Prelude.{◌≡◌, ◌⊎◌, ℕ, ◌≤◌, Bool, true, false, List, Option, Some, None, IfSome, Result, Ok, Err, IsOk, IfOk}
+use Rattle.std.specs.Prelude.{◌≡◌, ◌⊎◌, ℕ, ◌≤◌, true, false, List, Option, Some, None, IfSome, Result, Err, IsOk, IfOk}
 use Rattle.lg_model.specs.Scenario.{Scenario}
 use Rattle.lg_model.specs.Joining.{AgreesWith}
 use Rattle.sketchlet_wire.specs.Uploads.{UploadData}
@@ -10,7 +10,6 @@ use Rattle.book_file.specs.File.{StandsFor}
 use Rattle.run_laws.specs.Truth.{IsTrueBook, IsTrueRun}
 use Rattle.guardian_words.specs.declared.commands.Command.{Command}
 use Rattle.guardian_words.specs.declared.commands.Command.TheVariants as commands
-use Rattle.guardian_run.specs.declared.refusal.Refusal.{Refusal}
 use Rattle.guardian_run.specs.declared.refusal.Refusal.TheVariants as refusals
 use Rattle.guardian_run.specs.Changes.{Change, HasFailed, IsUntouched, DiskChange, DiskHasFailed}
 use Rattle.guardian_run.specs.Outcomes.{Outcome, Comes, WithScenario, reads_text, looks_at_file}

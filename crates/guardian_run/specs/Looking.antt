@@ -1,5 +1,5 @@
 -- What looking at the book's file gives a command.
-use Rattle.std.specs.Prelude.{◌≡◌, ◌⊎◌, ℕ, ◌<◌, List, Option, Some, None, Result, Ok, Err}
+use Rattle.std.specs.Prelude.{◌≡◌, ◌⊎◌, ℕ, ◌<◌, List, Option, Some, None}
 use Rattle.lg_model.specs.Placing.{Shape}
 use Rattle.column_book.specs.Entries.{BookState, records, known_of}
 use Rattle.book_file.specs.File.{IsBlank}

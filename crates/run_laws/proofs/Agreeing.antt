@@ -1,7 +1,7 @@
 -- A content that agrees with a scenario is true of it.
-use Rattle.std.specs.Prelude.{◌≡◌, ℕ, ◌<◌, List, [], All, true, ◌==◌, Option, Some, None, IfSome, IsSomeAnd, slice_index, slice_index_or, length}
+use Rattle.std.specs.Prelude.{◌≡◌, ℕ, ◌<◌, List, [], true, ◌==◌, Option, Some, None, IfSome, IsSomeAnd, slice_index, slice_index_or, length}
 use Rattle.std.specs.List.{list_any}
-use Rattle.std.proofs.Common.{refl, sym, ap, ◌∙◌, subst, arith, inl, inr}
+use Rattle.std.proofs.Common.{sym, ap, ◌∙◌, arith, inl, inr}
 use Rattle.std.proofs.lemmas.Grind.{get_or_default_zero}
 use Rattle.std.proofs.lemmas.Bool.{cases_lt, eqb-true}
 use Rattle.std.proofs.lemmas.List.{ext_get_or, get_or-map}
@@ -10,7 +10,7 @@ use Rattle.lg_model.specs.declared.column.Bucket.{Bucket}
 use Rattle.lg_model.specs.declared.column.Key.{Key}
 use Rattle.lg_model.specs.declared.scenario.Ask.{Ask}
 use Rattle.lg_model.specs.Placing.{Shape}
-use Rattle.lg_model.specs.Scenario.{Scenario, ended}
+use Rattle.lg_model.specs.Scenario.{Scenario}
 use Rattle.lg_model.specs.Trace.{seen}
 use Rattle.lg_model.specs.Sketch.{Table, IsTable, zero_bucket, bucket_in, bucket_at, frozen, frozen_cells}
 use Rattle.lg_model.specs.Columns.{Cells}
@@ -23,7 +23,7 @@ use Rattle.flow_query.specs.Rebuilt.{IsRebuilt}
 use Rattle.flow_query.proofs.Telling.{law}
 use Rattle.scenario_lines.specs.Readable.{AreApart, IsAskLine}
 use Rattle.scenario_parts.specs.Whole.{IsWhole}
-use Rattle.run_laws.specs.Truth.{IsTrueIn, IsFrozenSketch, IsTrueBook, LawOfTrueBooks, asked_key}
+use Rattle.run_laws.specs.Truth.{IsTrueIn, IsFrozenSketch, LawOfTrueBooks, asked_key}
 
 -- ---- names of switches
 

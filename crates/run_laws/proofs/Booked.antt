@@ -1,6 +1,6 @@
 -- What booking uploads one after the other comes to, where their columns are of the shape's size and agree.
-use Rattle.std.specs.Prelude.{◌≡◌, ℕ, ◌+◌, ◌<◌, ◌≤◌, List, [], ◌∷◌, ◌++◌, All, length, map, fold, Option, None, Some, IfSome, Result, Ok, Err, slice_index_or}
-use Rattle.std.specs.List.{AllByRecursion, flat_map}
+use Rattle.std.specs.Prelude.{◌≡◌, ℕ, ◌+◌, ◌<◌, ◌≤◌, List, [], ◌∷◌, ◌++◌, All, length, fold, Option, Some, IfSome, Result, Ok, Err}
+use Rattle.std.specs.List.{AllByRecursion}
 use Rattle.std.proofs.Common.{refl, sym, ap, ◌∙◌, subst, arith, append-nil, length-append}
 use Rattle.std.proofs.lemmas.List.{map-append}
 use Rattle.std.proofs.lemmas.List.Elements.{All-from_recursion}
@@ -15,7 +15,7 @@ use Rattle.column_book.specs.declared.entry.Entry.{Entry}
 use Rattle.column_book.specs.declared.fault.BookFault.{BookFault}
 use Rattle.column_book.specs.declared.fault.BookFault.TheVariants.{WrongShape, Conflict, Full}
 use Rattle.column_book.specs.Entries.{records, columns_in, columns_of, content}
-use Rattle.column_book.specs.Applying.{new_columns, decide, entry_with, with_new, after_decision}
+use Rattle.column_book.specs.Applying.{decide, entry_with, with_new, after_decision}
 use Rattle.column_book.specs.Outcomes.{Follows}
 use Rattle.column_book.proofs.Joins as joins
 use Rattle.column_book.proofs.Outcomes as outcomes

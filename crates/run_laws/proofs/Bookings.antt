@@ -1,32 +1,30 @@
 -- The booking of a run: its uploads are what came to the hosts, and it comes to the book of the run.
-use Rattle.std.specs.Prelude.{◌≡◌, ℕ, ◌+◌, ◌<◌, ◌≤◌, List, [], ◌∷◌, ◌++◌, All, length, map, fold, Result, Ok, Err}
+use Rattle.std.specs.Prelude.{◌≡◌, ℕ, ◌+◌, List, [], ◌∷◌, ◌++◌, length, map, Result, Ok, Err}
 use Rattle.std.specs.List.{AllByRecursion, flat_map, enumerate_from, range_with_len}
 use Rattle.std.proofs.Common.{refl, sym, ap, ◌∙◌, subst, arith}
 use Rattle.std.proofs.lemmas.List.Elements.{recursion_from_All}
 use Rattle.std.proofs.lemmas.Grind.{flat_map-append}
 use Rattle.lg_model.specs.declared.scenario.HostLine.{HostLine}
-use Rattle.lg_model.specs.declared.column.Key.{Key}
 use Rattle.lg_model.specs.Scenario.{Scenario}
 use Rattle.lg_model.specs.Carrying.{picked}
 use Rattle.lg_model.specs.Arriving.{brought, brought_to_all}
-use Rattle.lg_model.specs.Columns.{Cells, Column}
-use Rattle.lg_model.specs.Answer.{Content, with_column, content_of}
+use Rattle.lg_model.specs.Columns.{Column}
+use Rattle.lg_model.specs.Answer.{content_of}
 use Rattle.lg_model.proofs.Allowing.{picked_is_allowed}
 use Rattle.sketchlet_wire.specs.Uploads.{UploadData, IsUpload, upload_of}
-use Rattle.host_collect.specs.Cutting.{Piece, cut, numbered}
+use Rattle.host_collect.specs.Cutting.{Piece, cut}
 use Rattle.host_collect.proofs.Cutting.{cut_whole, cut_law}
 use Rattle.column_book.specs.declared.entry.Entry.{Entry}
 use Rattle.column_book.specs.declared.fault.BookFault.{BookFault}
 use Rattle.column_book.specs.declared.fault.BookFault.TheVariants.{WrongShape, Conflict, Full}
 use Rattle.column_book.specs.Entries.{columns_in}
-use Rattle.scenario_parts.specs.Whole.{IsWhole}
 use Rattle.lg_model.specs.Joining.{IsFrozen}
 use Rattle.scenario_lines.specs.Readable.{AreApart}
 use Rattle.run_laws.specs.Truth.{book_of, IsFrozenColumn}
 use Rattle.run_laws.proofs.Agreeing.{cells_at}
-use Rattle.run_laws.specs.Booking.{host_uploads, uploads_of, with_upload, booked_in, IsBooking, LawOfBookings}
+use Rattle.run_laws.specs.Booking.{host_uploads, uploads_of, booked_in, IsBooking, LawOfBookings}
 use Rattle.run_laws.proofs.Brought.{placed}
-use Rattle.run_laws.proofs.Booked.{IsGood, IsSound, Comes, comes}
+use Rattle.run_laws.proofs.Booked.{IsGood, Comes, comes}
 use Rattle.run_laws.proofs.True.{Placed, frozen_all}
 
 -- ---- the columns of the uploads

@@ -1,5 +1,5 @@
 -- What insertions of columns do to a content: how many columns it has, and that it is a join.
-use Rattle.std.specs.Prelude.{◌≡◌, ℕ, ◌+◌, ◌<◌, ◌≤◌, Bool, true, false, cond, List, [], ◌∷◌, length, filter, fold, Option, None, Some, is_none}
+use Rattle.std.specs.Prelude.{◌≡◌, ◌+◌, ◌≤◌, Bool, true, false, cond, List, [], ◌∷◌, length, filter, fold, Option, None, Some, is_none}
 use Rattle.std.specs.List.{AllByRecursion, IsDistinct}
 use Rattle.std.specs.Option.{option_or}
 use Rattle.std.specs.Ordering.{is_eq}
@@ -12,7 +12,7 @@ use Rattle.lg_model.specs.Answer.{key_cmp, Content, with_column, content_of, fou
 use Rattle.lg_model.specs.Joining.{join}
 use Rattle.lg_model.proofs.Maps.{InOrder, HasKeys, in_order_after, length-insert_new, no_longer, one_map}
 use Rattle.sketchlet_wire.specs.Uploads.{IsUpload, same_column_key}
-use Rattle.column_book.specs.Applying.{is_new, new_columns}
+use Rattle.column_book.specs.Applying.{new_columns}
 use Rattle.column_book.specs.Kept.{keys_of}
 use Rattle.column_book.proofs.Keys.{one_key, is_at_key, same_column_key-flip}
 use Rattle.column_book.proofs.Contents.{found-insert}

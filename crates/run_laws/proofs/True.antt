@@ -1,5 +1,5 @@
 -- Each column that came is a frozen one, and each answer of a run is true.
-use Rattle.std.specs.Prelude.{◌≡◌, ℕ, ◌<◌, ◌↔◌, List, [], All, Option, IfSome, slice_index_or, length}
+use Rattle.std.specs.Prelude.{◌≡◌, ◌↔◌, [], All, slice_index_or}
 use Rattle.std.proofs.Common.{refl, sym, ap, ◌∙◌, subst, arith}
 use Rattle.lg_model.specs.declared.column.Key.{Key}
 use Rattle.lg_model.specs.declared.scenario.Ask.{Ask}

@@ -1,6 +1,5 @@
 use Rattle.std.proofs.Common.{◌≡◌, ◌<◌, length, slice_index_or, sym, ap, subst, ◌∙◌, arith}
 use Rattle.std.proofs.lemmas.Result.{err_from_is_err_and}
-use Rattle.sketchlet_wire.specs.Uploads.{UploadData}
 use Rattle.run_laws.specs.Booking.{host_uploads, booked_in}
 use Rattle.guardian_run.specs.Booking.{after_uploads, IsEndOf}
 use Rattle.guardian_run.proofs.Keeping.{host_known}

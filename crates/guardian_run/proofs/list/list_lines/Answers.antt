@@ -1,11 +1,11 @@
-use Rattle.std.proofs.Common.{◌≡◌, ◌<◌, length, None, Some, sym, ◌∙◌, subst, arith}
+use Rattle.std.proofs.Common.{◌≡◌, ◌<◌, length, sym, ◌∙◌, subst, arith}
 use Rattle.std.specs.Prelude.{Option}
 use Rattle.lg_model.specs.declared.column.Key.{Key}
 use Rattle.lg_model.specs.Columns.{dims_of}
 use Rattle.lg_model.specs.Answer.{found}
 use Rattle.column_book.specs.Entries.{content}
 use Rattle.column_book.specs.Order.{IsNext}
-use Rattle.guardian_run.proofs.Listing.{pair_at, key_before, ordered, next_at, key_is, column_is, key_more, line_more}
+use Rattle.guardian_run.proofs.Listing.{pair_at, ordered, next_at, key_is, column_is, key_more, line_more}
 use Rattle.guardian_run.proofs.list.list_lines.Goals as goal
 
 pub unreachable-requires : goal.unreachable-requires

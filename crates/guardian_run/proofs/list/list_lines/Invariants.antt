@@ -1,4 +1,4 @@
-use Rattle.std.specs.Prelude.{◌≡◌, ◌≤◌, length, take}
+use Rattle.std.specs.Prelude.{◌≡◌, take}
 use Rattle.std.specs.List.{flat_map}
 use Rattle.lg_model.specs.Columns.{dims_of}
 use Rattle.column_book.specs.Entries.{content}

@@ -1,4 +1,4 @@
-use Rattle.std.proofs.Common.{None, Some, refl, sym, ap, ◌∙◌, arith}
+use Rattle.std.proofs.Common.{Some, refl, sym, ap, ◌∙◌, arith}
 use Rattle.guardian_words.specs.declared.commands.Command.TheVariants.{Ask, List, Rebuild, Capture}
 use Rattle.guardian_run.specs.Changes.{change, disk_change}
 use Rattle.guardian_run.specs.Outcomes.{reading_command, Captures, Lists, Rebuilds}
