@@ -1,9 +1,10 @@
 //! The frames, the book and its file of `crates/bench_parts` as a plain Rust program over the standard library, for
 //! bench/parts.
 //!
-//! The words are the same, but that those of the book end with the map that keeps the columns: `frames N`,
-//! `book|find|walk near|scattered N TIMES btree|hash`, `open|look|lines|list FILE TIMES`. `make FILE` makes the file of a
-//! book of all columns, in records of 16 neighbours.
+//! The words are the same, but that those of the book end with the map that keeps the columns, and those of lines with
+//! how they are written, by `write!` or digit by digit: `frames N`, `book|find|walk near|scattered N TIMES btree|hash`,
+//! `open|look FILE TIMES`, `lines|list FILE TIMES write|digits`. `make FILE` makes the file of a book of all columns,
+//! in records of 16 neighbours.
 
 use std::collections::hash_map::Entry as HashEntry;
 use std::collections::{btree_map, BTreeMap, HashMap};
@@ -549,21 +550,57 @@ impl Stored {
     }
 
     /// The lines of all columns, in the order of their keys.
-    fn lines(&self) -> Option<Vec<u8>> {
+    fn lines(&self, put: PutLine) -> Option<Vec<u8>> {
         let mut text = Vec::new();
         for (key, buckets) in &self.map {
-            write!(text, "column {} {} {}", key.switch, key.epoch, key.index).ok()?;
-            for bucket in &buckets[..usize::from(self.dims.rows)] {
-                write!(text, " {} {}", bucket.bytes, bucket.delay).ok()?;
-            }
-            text.push(b'\n');
+            put(&mut text, key, &buckets[..usize::from(self.dims.rows)])?;
         }
         Some(text)
     }
 
-    fn first_lines(&self) -> Option<u64> {
-        Some(self.lines()?.iter().fold(0, |sum, byte| mixed(sum, u64::from(*byte))))
+    fn first_lines(&self, put: PutLine) -> Option<u64> {
+        Some(self.lines(put)?.iter().fold(0, |sum, byte| mixed(sum, u64::from(*byte))))
     }
+}
+
+/// Appends the line of a column.
+type PutLine = fn(&mut Vec<u8>, &Key, &[Bucket]) -> Option<()>;
+
+fn line_by_write(text: &mut Vec<u8>, key: &Key, buckets: &[Bucket]) -> Option<()> {
+    write!(text, "column {} {} {}", key.switch, key.epoch, key.index).ok()?;
+    for bucket in buckets {
+        write!(text, " {} {}", bucket.bytes, bucket.delay).ok()?;
+    }
+    text.push(b'\n');
+    Some(())
+}
+
+/// Appends a space and a number.
+fn put_number(text: &mut Vec<u8>, n: u32) {
+    let mut word = [b' '; 11];
+    let (mut at, mut left) = (word.len(), n);
+    loop {
+        at -= 1;
+        word[at] = b'0' + (left % 10) as u8;
+        left /= 10;
+        if left == 0 {
+            break;
+        }
+    }
+    text.extend_from_slice(&word[at - 1..]);
+}
+
+fn line_by_digits(text: &mut Vec<u8>, key: &Key, buckets: &[Bucket]) -> Option<()> {
+    text.extend_from_slice(b"column");
+    for n in [u32::from(key.switch), key.epoch, u32::from(key.index)] {
+        put_number(text, n);
+    }
+    for bucket in buckets {
+        put_number(text, bucket.bytes);
+        put_number(text, u32::from(bucket.delay));
+    }
+    text.push(b'\n');
+    Some(())
 }
 
 fn opened(name: &str, times: u32) -> Option<u64> {
@@ -575,21 +612,30 @@ fn opened(name: &str, times: u32) -> Option<u64> {
     Some(sum)
 }
 
-fn lined(name: &str, times: u32) -> Option<u64> {
+fn lined(name: &str, times: u32, put: PutLine) -> Option<u64> {
     let stored = Stored::read(name)?;
-    let mut sum = stored.first_lines()?;
+    let mut sum = stored.first_lines(put)?;
     for _ in 0..times {
-        sum = mixed(sum, stored.lines()?.len() as u64);
+        sum = mixed(sum, stored.lines(put)?.len() as u64);
     }
     Some(sum)
 }
 
-fn listed(name: &str, times: u32) -> Option<u64> {
-    let mut sum = Stored::read(name)?.first_lines()?;
+fn listed(name: &str, times: u32, put: PutLine) -> Option<u64> {
+    let mut sum = Stored::read(name)?.first_lines(put)?;
     for _ in 0..times {
-        sum = mixed(sum, Stored::read(name)?.lines()?.len() as u64);
+        sum = mixed(sum, Stored::read(name)?.lines(put)?.len() as u64);
     }
     Some(sum)
+}
+
+fn of_lines(part: &str, name: &str, times: u32, how: &str) -> Option<u64> {
+    let put = if how == "write" { line_by_write } else { line_by_digits };
+    if part == "lines" {
+        lined(name, times, put)
+    } else {
+        listed(name, times, put)
+    }
 }
 
 // ---- the words -----------------------------------------------------------------------------------------------------
@@ -600,8 +646,7 @@ fn done(words: &[String]) -> Option<u64> {
         ["frames", count] => sent(count.parse().ok()?),
         ["make", name] => made(name),
         ["open" | "look", name, times] => opened(name, times.parse().ok()?),
-        ["lines", name, times] => lined(name, times.parse().ok()?),
-        ["list", name, times] => listed(name, times.parse().ok()?),
+        ["lines" | "list", name, times, how] => of_lines(words[0], name, times.parse().ok()?, how),
         [part, order, count, times, map] => {
             let (count, times) = (count.parse().ok()?, times.parse().ok()?);
             if map == "btree" {
