@@ -1,4 +1,5 @@
-/* The disk's parts of crates/bench_parts as a plain C program, for bench/parts: read FILE TIMES, append FILE N. */
+/* The disk's parts of crates/bench_parts as a plain C program, for bench/parts: read FILE TIMES, append FILE N,
+ * journal FILE N. */
 #include <fcntl.h>
 #include <stdint.h>
 #include <stdio.h>
@@ -57,12 +58,53 @@ static uint64_t appended(const char *name, unsigned long count) {
     return (uint64_t)at;
 }
 
+/* Puts the lowest bytes of a number, so many, the highest first. Gives where they end. */
+static unsigned char *put_number(unsigned char *at, uint32_t n, int bytes) {
+    for (int i = bytes - 1; i >= 0; i--) *at++ = (unsigned char)(n >> 8 * i);
+    return at;
+}
+
+/* The body of a record of the 16 columns of an upload, eight rows each, and a closed gate after it. */
+static void put_body(unsigned char body[904], uint32_t seq) {
+    unsigned char *at = put_number(body, 1, 2);
+    at = put_number(at, seq, 4);
+    at = put_number(at, 16, 1);
+    for (uint32_t n = 16 * seq; n < 16 * seq + 16; n++) {
+        at = put_number(at, n / 65536, 2);
+        at = put_number(at, n / 4096 % 16, 4);
+        at = put_number(at, n % 4096, 2);
+        for (int row = 0; row < 8; row++) {
+            at = put_number(at, n * 2654435761u, 4);
+            at = put_number(at, n % 65536, 2);
+        }
+    }
+    *at = 0;
+}
+
+/* Opens an empty journal and appends so many records to it. Gives a number of the columns and the records. */
+static uint64_t journaled(const char *name, unsigned long count) {
+    unsigned char head[18], body[904];
+    int file = open(name, O_RDWR | O_CLOEXEC);
+    if (file < 0 || fdatasync(file) < 0) stop("open");
+    if (read(file, head, sizeof head) != sizeof head) stop("read");
+    if (head[0] != 1 || memcmp(head + 1, "LGB1", 4) != 0 || head[17] != 0) exit(1);
+    off_t gate = 17;
+    for (uint32_t n = 0; n < count; n++) {
+        put_body(body, n);
+        put(file, gate + 1, body, sizeof body);
+        put(file, gate, "\1", 1);
+        gate += sizeof body;
+    }
+    return mixed(mixed(0, 16 * count), count);
+}
+
 int main(int argc, char **argv) {
     if (argc != 4) return 1;
     unsigned long n = strtoul(argv[3], NULL, 10);
     uint64_t sum;
     if (strcmp(argv[1], "read") == 0) sum = scanned(argv[2], n);
     else if (strcmp(argv[1], "append") == 0) sum = appended(argv[2], n);
+    else if (strcmp(argv[1], "journal") == 0) sum = journaled(argv[2], n);
     else return 1;
     printf("%llu\n", (unsigned long long)sum);
     return 0;

@@ -1,10 +1,15 @@
-//! The frames and the book of `crates/bench_parts` as a plain Rust program over the standard library, for bench/parts.
+//! The frames, the book and its file of `crates/bench_parts` as a plain Rust program over the standard library, for
+//! bench/parts.
 //!
-//! The words are the same, but that those of the book end with the map that keeps the columns: `frames N`,
-//! `book|find|walk near|scattered N TIMES btree|hash`.
+//! The words are the same, but that those of the book end with the map that keeps the columns, and those of lines with
+//! how they are written, by `write!` or digit by digit: `frames N`, `book|find|walk near|scattered N TIMES btree|hash`,
+//! `open|look FILE TIMES`, `lines|list FILE TIMES write|digits`. `make FILE` makes the file of a book of all columns,
+//! in records of 16 neighbours.
 
 use std::collections::hash_map::Entry as HashEntry;
-use std::collections::{BTreeMap, HashMap};
+use std::collections::{btree_map, BTreeMap, HashMap};
+use std::fs::File;
+use std::io::{BufReader, BufWriter, Read, Write};
 use std::ops::Bound;
 use std::process::ExitCode;
 
@@ -313,11 +318,11 @@ impl Map for BTreeMap<Key, [Bucket; 8]> {
 
     fn put(&mut self, key: Key, buckets: &[Bucket; 8]) -> bool {
         match self.entry(key) {
-            std::collections::btree_map::Entry::Vacant(place) => {
+            btree_map::Entry::Vacant(place) => {
                 place.insert(*buckets);
                 true
             }
-            std::collections::btree_map::Entry::Occupied(_) => false,
+            btree_map::Entry::Occupied(_) => false,
         }
     }
 
@@ -459,12 +464,189 @@ fn of_book<M: Map>(part: &str, order: &str, count: u32, times: u32) -> Option<u6
     Some(sum)
 }
 
+// ---- the book's file -----------------------------------------------------------------------------------------------
+
+/// An open gate, the letters, and the shape: 8 rows of width 4,096, places by the ports.
+const HEADER: [u8; 17] = [1, b'L', b'G', b'B', b'1', ROWS, 16, 0, 0, 0, 0, 0, 0, 0, 0, 0, 0];
+
+/// Writes a book file of all columns. Gives its length.
+fn made(name: &str) -> Option<u64> {
+    let mut file = BufWriter::new(File::create(name).ok()?);
+    file.write_all(&HEADER).ok()?;
+    for seq in 0..COLUMNS / 16 {
+        file.write_all(&[1, 0, 1]).ok()?;
+        file.write_all(&seq.to_be_bytes()).ok()?;
+        file.write_all(&[16]).ok()?;
+        for n in 16 * seq..16 * seq + 16 {
+            let mut sketchlet = [0; 62];
+            put_column(&column(n), &mut sketchlet);
+            file.write_all(&sketchlet[6..]).ok()?;
+        }
+    }
+    file.write_all(&[0]).ok()?;
+    Some(file.into_inner().ok()?.metadata().ok()?.len())
+}
+
+/// The size of the sketches of a header's shape.
+fn dims_of(head: &[u8; 17]) -> Option<Dims> {
+    if head[..5] != HEADER[..5] {
+        return None;
+    }
+    let dims = Dims { rows: head[5], width: u16_at(head, 6) };
+    let by_ports = head[8] == 0 && head[9..] == [0; 8];
+    let admitted = (1..=8).contains(&dims.rows) && (1..=4096).contains(&dims.width) && (by_ports || head[8] == 1);
+    admitted.then_some(dims)
+}
+
+/// What a book file holds.
+struct Stored {
+    dims: Dims,
+    map: BTreeMap<Key, [Bucket; 8]>,
+    records: u32,
+}
+
+impl Stored {
+    /// Takes the columns of a body. None where one is malformed or its key is kept already.
+    fn take(&mut self, columns: &[u8]) -> Option<()> {
+        for bytes in columns.chunks_exact(8 + 6 * usize::from(self.dims.rows)) {
+            let key = Key { switch: u16_at(bytes, 0), epoch: u32_at(bytes, 2), index: u16_at(bytes, 6) };
+            if key.index >= self.dims.width {
+                return None;
+            }
+            let mut buckets = [Bucket { bytes: 0, delay: 0 }; 8];
+            for (bucket, cell) in buckets.iter_mut().zip(bytes[8..].chunks_exact(6)) {
+                *bucket = Bucket { bytes: u32_at(cell, 0), delay: u16_at(cell, 4) };
+            }
+            match self.map.entry(key) {
+                btree_map::Entry::Vacant(place) => place.insert(buckets),
+                btree_map::Entry::Occupied(_) => return None,
+            };
+        }
+        Some(())
+    }
+
+    /// Reads a book file in pieces of 4,096 bytes. None where it is faulty.
+    fn read(name: &str) -> Option<Stored> {
+        let mut file = BufReader::with_capacity(4096, File::open(name).ok()?);
+        let mut head = [0; 17];
+        file.read_exact(&mut head).ok()?;
+        let mut stored = Stored { dims: dims_of(&head)?, map: BTreeMap::new(), records: 0 };
+        let (mut gate, mut lead, mut columns) = ([0], [0; 7], [0; 896]);
+        loop {
+            file.read_exact(&mut gate).ok()?;
+            if gate != [1] {
+                return Some(stored);
+            }
+            file.read_exact(&mut lead).ok()?;
+            let count = usize::from(lead[6]);
+            if !(1..=MOST).contains(&count) || stored.map.len() + count > COLUMNS as usize {
+                return None;
+            }
+            let columns = &mut columns[..count * (8 + 6 * usize::from(stored.dims.rows))];
+            file.read_exact(columns).ok()?;
+            stored.take(columns)?;
+            stored.records += 1;
+        }
+    }
+
+    /// The lines of all columns, in the order of their keys.
+    fn lines(&self, put: PutLine) -> Option<Vec<u8>> {
+        let mut text = Vec::new();
+        for (key, buckets) in &self.map {
+            put(&mut text, key, &buckets[..usize::from(self.dims.rows)])?;
+        }
+        Some(text)
+    }
+
+    fn first_lines(&self, put: PutLine) -> Option<u64> {
+        Some(self.lines(put)?.iter().fold(0, |sum, byte| mixed(sum, u64::from(*byte))))
+    }
+}
+
+/// Appends the line of a column.
+type PutLine = fn(&mut Vec<u8>, &Key, &[Bucket]) -> Option<()>;
+
+fn line_by_write(text: &mut Vec<u8>, key: &Key, buckets: &[Bucket]) -> Option<()> {
+    write!(text, "column {} {} {}", key.switch, key.epoch, key.index).ok()?;
+    for bucket in buckets {
+        write!(text, " {} {}", bucket.bytes, bucket.delay).ok()?;
+    }
+    text.push(b'\n');
+    Some(())
+}
+
+/// Appends a space and a number.
+fn put_number(text: &mut Vec<u8>, n: u32) {
+    let mut word = [b' '; 11];
+    let (mut at, mut left) = (word.len(), n);
+    loop {
+        at -= 1;
+        word[at] = b'0' + (left % 10) as u8;
+        left /= 10;
+        if left == 0 {
+            break;
+        }
+    }
+    text.extend_from_slice(&word[at - 1..]);
+}
+
+fn line_by_digits(text: &mut Vec<u8>, key: &Key, buckets: &[Bucket]) -> Option<()> {
+    text.extend_from_slice(b"column");
+    for n in [u32::from(key.switch), key.epoch, u32::from(key.index)] {
+        put_number(text, n);
+    }
+    for bucket in buckets {
+        put_number(text, bucket.bytes);
+        put_number(text, u32::from(bucket.delay));
+    }
+    text.push(b'\n');
+    Some(())
+}
+
+fn opened(name: &str, times: u32) -> Option<u64> {
+    let mut sum = 0;
+    for _ in 0..times {
+        let stored = Stored::read(name)?;
+        sum = mixed(mixed(sum, stored.map.len() as u64), u64::from(stored.records));
+    }
+    Some(sum)
+}
+
+fn lined(name: &str, times: u32, put: PutLine) -> Option<u64> {
+    let stored = Stored::read(name)?;
+    let mut sum = stored.first_lines(put)?;
+    for _ in 0..times {
+        sum = mixed(sum, stored.lines(put)?.len() as u64);
+    }
+    Some(sum)
+}
+
+fn listed(name: &str, times: u32, put: PutLine) -> Option<u64> {
+    let mut sum = Stored::read(name)?.first_lines(put)?;
+    for _ in 0..times {
+        sum = mixed(sum, Stored::read(name)?.lines(put)?.len() as u64);
+    }
+    Some(sum)
+}
+
+fn of_lines(part: &str, name: &str, times: u32, how: &str) -> Option<u64> {
+    let put = if how == "write" { line_by_write } else { line_by_digits };
+    if part == "lines" {
+        lined(name, times, put)
+    } else {
+        listed(name, times, put)
+    }
+}
+
 // ---- the words -----------------------------------------------------------------------------------------------------
 
 fn done(words: &[String]) -> Option<u64> {
     let words: Vec<&str> = words.iter().map(String::as_str).collect();
     match words[..] {
         ["frames", count] => sent(count.parse().ok()?),
+        ["make", name] => made(name),
+        ["open" | "look", name, times] => opened(name, times.parse().ok()?),
+        ["lines" | "list", name, times, how] => of_lines(words[0], name, times.parse().ok()?, how),
         [part, order, count, times, map] => {
             let (count, times) = (count.parse().ok()?, times.parse().ok()?);
             if map == "btree" {

@@ -5,8 +5,8 @@ use column_book::{Book, ROOM, Shape, Upload};
 use lg_model::Hash;
 use std::alloc::Global;
 
-// The upload of the 16 columns that come there.
-fn upload(alloc: Global, order: Order, seq: u32) -> Option<Upload> {
+/// The upload of the 16 columns that come there.
+pub(crate) fn upload(alloc: Global, order: Order, seq: u32) -> Option<Upload> {
     let mut columns = Vec::with_capacity(alloc, 16).ok()?;
     for n in 0..16 {
         let at = seq.wrapping_mul(16).wrapping_add(n);

@@ -8,19 +8,27 @@
 //! | `walk ORDER N TIMES` | a book of N columns is walked from key to key, so many times |
 //! | `read FILE TIMES` | a file is read in pieces of 4,096 bytes, so many times |
 //! | `append FILE N` | N records of 31 bytes are appended to a file, each with two writes and two syncs |
+//! | `open FILE TIMES` | a book file is opened as a journal, so many times |
+//! | `look FILE TIMES` | a book file is looked at, so many times |
+//! | `lines FILE TIMES` | the lines of all columns of a book file are made, so many times |
+//! | `list FILE TIMES` | a book file is opened as a journal and listed, so many times |
+//! | `journal FILE N` | a journal takes N uploads of 16 new columns |
 //!
-//! The order is `near`, uploads of neighbouring columns, or `scattered`. It writes one number, which tells that the work
-//! was done, and ends with 1 where it was not. No crate of the product stands on this one.
+//! The order is `near`, uploads of neighbouring columns, or `scattered`. A book file is of sketches of eight rows of 4,096
+//! buckets, with places by the ports. It writes one number, which tells that the work was done, and ends with 1 where it
+//! was not. No crate of the product stands on this one.
 #![tactic(auto)]
 
 mod books;
 mod columns;
 mod disks;
+mod files;
 mod frames;
 
 use crate::books::{asked, taken, walked};
 use crate::columns::Order;
 use crate::disks::{appended, scanned};
+use crate::files::{journaled, lined, listed, looked, opened};
 use crate::frames::sent;
 use lg_disk::FileDisk;
 use std::alloc::Global;
@@ -70,6 +78,24 @@ fn of_disk<F: Files>(files: &F, part: &str, name: &str, count: &str) -> Option<u
     }
 }
 
+// What a part of the book's file comes to.
+fn of_file<F: Files>(files: &F, alloc: Global, part: &str, name: &str, count: &str) -> Option<u64> {
+    let count = number(count)?;
+    if part == "open" {
+        opened(files, alloc, name, count)
+    } else if part == "look" {
+        looked(files, alloc, name, count)
+    } else if part == "lines" {
+        lined(files, alloc, name, count)
+    } else if part == "list" {
+        listed(files, alloc, name, count)
+    } else if part == "journal" {
+        journaled(files, alloc, name, count)
+    } else {
+        None
+    }
+}
+
 // What the part of these words comes to.
 fn done<F: Files>(files: &F, alloc: Global, words: &[String]) -> Option<u64> {
     match words {
@@ -80,7 +106,13 @@ fn done<F: Files>(files: &F, alloc: Global, words: &[String]) -> Option<u64> {
                 None
             }
         }
-        [part, name, count] => of_disk(files, part, name, count),
+        [part, name, count] => {
+            if part.as_str() == "read" || part.as_str() == "append" {
+                of_disk(files, part, name, count)
+            } else {
+                of_file(files, alloc, part, name, count)
+            }
+        }
         [part, order, count, times] => of_book(alloc, part, order, count, times),
         _ => None,
     }
