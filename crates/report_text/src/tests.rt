@@ -1,9 +1,10 @@
 use crate::{
-    answer_line, full_line, hex_line, no_memory_line, put_answer_line, put_columns_line,
-    put_full_line, put_hex_line, put_scenario_line, put_sketchlets_line, read_fault_line,
-    scenario_line, usage_line,
+    answer_line, blank_line, damaged_line, disk_fault_line, full_line, hex_line, missing_line,
+    no_memory_line, not_a_journal_line, put_answer_line, put_columns_line, put_full_line,
+    put_hex_line, put_rebuilt_line, put_scenario_line, put_sketchlets_line, read_fault_line,
+    scenario_line, shape_line, usage_line,
 };
-use lg_model::{Answer, Value};
+use lg_model::{Answer, Dims, Hash, Shape, Value};
 use scenario_lines::Why;
 use sketchlet_wire::Packed;
 use std::test::Fail;
@@ -151,7 +152,18 @@ fn lines_of_a_book_file(rt: HostRuntime) -> Result<(), Fail> {
         assert_eq!(rt; line.as_slice(), want);
     }
     let mut out = Vec::new(rt.alloc());
-    put_rebuilt_line(&mut out, 65535, 4294967295, Dims { rows: 2, width: 4096 })?;
-    assert_eq!(rt; out.as_slice(), b"rebuilt switch 65535 epoch 4294967295 rows 2 width 4096\n".as_slice());
+    put_rebuilt_line(
+        &mut out,
+        65535,
+        4294967295,
+        Dims {
+            rows: 2,
+            width: 4096,
+        },
+    )?;
+    assert_eq!(rt;
+        out.as_slice(),
+        b"rebuilt switch 65535 epoch 4294967295 rows 2 width 4096\n".as_slice()
+    );
     Ok(())
 }
