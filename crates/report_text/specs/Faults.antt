@@ -1,11 +1,15 @@
 -- Fault lines.
 use Rattle.std.specs.Prelude.{ℕ, List, ◌++◌, codes}
+use Rattle.std.specs.List.{flat_map}
 use Rattle.std.specs.Fmt.{decimal}
 use Rattle.scenario_lines.specs.declared.why.Why.{Why}
 use Rattle.scenario_lines.specs.Whys.{why_text}
+use Rattle.lg_model.specs.declared.column.Key.{Key}
 use Rattle.lg_model.specs.Placing.{Shape}
+use Rattle.lg_model.specs.Columns.{Column}
 use Rattle.text_out.specs.Words.{field, joined, line}
 use Rattle.text_out.specs.Shapes.{shape_words}
+use Rattle.report_text.specs.Columns.{bucket_text}
 
 -- The line where the words are no command.
 abbrev pub usage_line : List ℕ
@@ -51,3 +55,11 @@ scenario_line (n, why) = line (codes "guardian: scenario line " ++ decimal n ++ 
 -- `guardian: full with H and M more`: the columns that a book has, and the new ones for which it has no room
 unfoldable pub full_line : (held more : ℕ) → List ℕ
 full_line held more = line (codes "guardian: full with " ++ decimal held ++ codes " and " ++ decimal more ++ codes " more")
+
+-- `guardian: conflict at switch S epoch E column J kept LIST came LIST`: each LIST is the sum in bytes and the maximum in
+-- microseconds of each row, of the column that the book keeps and of the one that came
+unfoldable pub conflict_line : Key → (kept came : Column) → List ℕ
+conflict_line key kept came =
+    line ((field (codes "guardian: conflict at switch ") key.switch ++ field (codes " epoch ") key.epoch)
+    ++ field (codes " column ") key.index ++ (codes " kept" ++ flat_map bucket_text kept.cells.buckets)
+    ++ (codes " came" ++ flat_map bucket_text came.cells.buckets))

@@ -35,7 +35,7 @@ fn put_key(out: &mut Vec<u8>, key: &Key) -> Result<(), Memory>
 }
 
 // The buckets of a column.
-fn put_buckets(out: &mut Vec<u8>, column: &Column) -> Result<(), Memory>
+pub(crate) fn put_buckets(out: &mut Vec<u8>, column: &Column) -> Result<(), Memory>
     ensures { AppendsText result out.old.items out.new.items (flat_map bucket_text column.now.cells.buckets) }
 {
     for row in 0..column.dims().rows {

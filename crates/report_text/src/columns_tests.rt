@@ -1,4 +1,4 @@
-use crate::{acked_line, column_line, row_line};
+use crate::{acked_line, column_line, put_conflict_line, row_line};
 use lg_model::{Bucket, Dims, Hash, Key, Shape};
 use sketchlet_wire::Column;
 use std::test::Fail;
@@ -20,6 +20,14 @@ fn lines_of_columns_rows_and_uploads(rt: HostRuntime) -> Result<(), Fail> {
     assert_eq!(rt;
         column_line(rt.alloc(), &column)?.as_slice(),
         b"column 65535 7 0 150 30 50 30\n".as_slice()
+    );
+
+    let other = Column::new(key, Dims { rows: 2, width: 2 }, second).ok_or("no column")?;
+    let mut line = Vec::new(rt.alloc());
+    put_conflict_line(&mut line, &key, &column, &other)?;
+    assert_eq!(rt;
+        line.as_slice(),
+        b"guardian: conflict at switch 65535 epoch 7 column 0 kept 150 30 50 30 came 5 1 100 10\n".as_slice()
     );
 
     let shape = Shape::new(2, 2, Hash::Ports).ok_or("no shape")?;

@@ -1,14 +1,18 @@
 //! Fault lines.
 ghost use Rattle.std.specs.Prelude.{◌≡◌, ◌++◌, codes, IfOk};
+ghost use Rattle.std.specs.List.{flat_map};
 ghost use Rattle.scenario_lines.specs.Whys.{why_text};
 ghost use Rattle.text_out.specs.Appending.{AppendsText};
 ghost use Rattle.text_out.specs.Words.{field, joined};
 ghost use Rattle.text_out.specs.Shapes.{shape_words};
+ghost use Rattle.report_text.specs.Columns.{bucket_text};
 ghost use Rattle.report_text.specs.Faults as faults;
 
+use crate::columns::put_buckets;
 use lg_base::Memory;
-use lg_model::Shape;
+use lg_model::{Key, Shape};
 use scenario_lines::Why;
+use sketchlet_wire::Column;
 use std::alloc::Global;
 use text_out::{put_field, put_shape, put_text};
 
@@ -223,4 +227,43 @@ pub fn missing_line(
     let mut text = Vec::new(alloc);
     put_missing_line(&mut text, switch, epoch, known, width)?;
     Ok(text)
+}
+
+// `guardian: conflict at switch S epoch E`
+fn put_place(out: &mut Vec<u8>, key: &Key) -> Result<(), Memory>
+    ensures { AppendsText result out.old.items out.new.items
+        (field (codes "guardian: conflict at switch ") key.now.switch ++ field (codes " epoch ") key.now.epoch) }
+{
+    put_field(out, b"guardian: conflict at switch ", u64::from(key.switch))?;
+    put_field(out, b" epoch ", u64::from(key.epoch))?;
+    Ok(())
+}
+
+// A word, and the buckets of a column.
+fn put_listed(out: &mut Vec<u8>, word: &[u8], column: &Column) -> Result<(), Memory>
+    ensures { AppendsText result out.old.items out.new.items (word.now ++ flat_map bucket_text column.now.cells.buckets) }
+{
+    put_text(out, word)?;
+    put_buckets(out, column)?;
+    Ok(())
+}
+
+/// Appends `guardian: conflict at switch S epoch E column J kept LIST came LIST` and the byte 10: what names two columns, and
+/// of each row the sum in bytes and the maximum in microseconds, of the one that the book keeps and of the one that came. At
+/// `Memory` what stood before is kept, and a part of the line may stand after it.
+#[tactic(auto, using(text_out::proofs::Keeping::keeps_itself, text_out::proofs::Keeping::keeps_after), unfolding(crate::specs::Faults::conflict_line))]
+pub fn put_conflict_line(
+    out: &mut Vec<u8>,
+    key: &Key,
+    kept: &Column,
+    came: &Column,
+) -> Result<(), Memory>
+    ensures { AppendsText result out.old.items out.new.items (faults.conflict_line key.now kept.now came.now) }
+{
+    put_place(out, key)?;
+    put_field(out, b" column ", u64::from(key.index))?;
+    put_listed(out, b" kept", kept)?;
+    put_listed(out, b" came", came)?;
+    put_text(out, b"\n")?;
+    Ok(())
 }

@@ -12,6 +12,7 @@
 //! | [`acked_line`], [`put_acked_line`] | the line of an acknowledged upload |
 //! | [`scenario_line`], [`put_scenario_line`] | the line of a scenario text that is refused |
 //! | [`full_line`], [`put_full_line`] | the line of a book that has no room |
+//! | [`put_conflict_line`] | the line of a column that differs from the one that the book keeps |
 //! | [`shape_line`], [`damaged_line`] | the lines of a book file that is of another shape, or is damaged |
 //! | [`missing_line`], [`blank_line`] | the lines of a sketch that cannot be rebuilt |
 //! | [`usage_line`], [`read_fault_line`], [`disk_fault_line`], [`not_a_journal_line`], [`no_memory_line`] | fault lines that never change |
@@ -37,7 +38,7 @@ pub use columns::{
 };
 pub use faults::{
     blank_line, damaged_line, disk_fault_line, full_line, missing_line, no_memory_line,
-    not_a_journal_line, put_full_line, put_scenario_line, read_fault_line, scenario_line,
-    shape_line, usage_line,
+    not_a_journal_line, put_conflict_line, put_full_line, put_scenario_line, read_fault_line,
+    scenario_line, shape_line, usage_line,
 };
 pub use text_out::{put_number, put_text};
