@@ -2,7 +2,6 @@
 use Rattle.std.proofs.Common.{◌≡◌, ℕ, zero, suc, ◌<◌, Bool, true, false, not, ◌||◌, cond, List, [], ◌∷◌, ◌++◌, length, get_or, Option, None, Some, refl, sym, ◌∙◌, ap, subst, arith}
 use Rattle.std.specs.Prelude.{filter, fold, is_none, is_some}
 use Rattle.std.specs.List.{AllByRecursion, IsDistinct, list_any}
-use Rattle.std.proofs.lemmas.Bool.{or_parts}
 use Rattle.std.proofs.lemmas.List.{map-append}
 use Rattle.std.proofs.lemmas.Map.Keys.{IsDistinct-head, IsDistinct-tail, IsDistinct-cons}
 use Rattle.lg_model.specs.declared.column.Key.{Key}
@@ -172,19 +171,3 @@ not_twice (c ∷ cs) d zero lt = refl
 not_twice (c ∷ cs) d (suc n) lt =
     let apart = key_at (λ k. same_column_key c.key k ≡ false) cs n (IsDistinct-head same_column_key c.key (keys_of cs) d) (omega arith) in
     rw apart (not_twice cs (IsDistinct-tail same_column_key c.key (keys_of cs) d) n (omega arith))
-
--- where no key of theirs is known, all are new, and else they are not
-pub all_new : (m : Content) (cs : List Column) → list_any (λ c. not (is_new m c)) cs ≡ false → AllByRecursion (λ c. is_new m c ≡ true) cs
-all_new m [] h = tt
-all_new m (c ∷ cs) h =
-    let parts = or_parts (not (is_new m c)) (list_any (λ d. not (is_new m d)) cs) h in
-    (not_false (is_new m c) parts.0, all_new m cs parts.1)
-  where
-    not_false : (b : Bool) → not b ≡ false → b ≡ true
-    not_false true e = refl
-    not_false false e = absurd cc
-
-pub not_all_new : (m : Content) (cs : List Column) → list_any (λ c. not (is_new m c)) cs ≡ true → AllByRecursion (λ c. is_new m c ≡ true) cs → ⊥
-not_all_new m [] h all = cc
-not_all_new m (c ∷ cs) h all =
-    not_all_new m cs (subst (λ (b : Bool). (not b || list_any (λ d. not (is_new m d)) cs) ≡ true) all.0 h) all.1

@@ -5,6 +5,7 @@ pub mod Heads
 pub mod Columns
 pub mod Readings
 pub mod Adding
+pub mod Checked
 pub mod Stepping
 pub mod Feeding
 pub mod Endings

@@ -1,6 +1,6 @@
 -- The steps of a walk.
-use Rattle.std.proofs.Common.{◌≡◌, inr, ℕ, ◌+◌, ◌<◌, ◌≤◌, true, false, not, List, [], ◌∷◌, ◌++◌, length, get_or, map, Option, None, Some, Result, Ok, Err, ⊎_elim, refl, sym, ◌∙◌, ap, subst, arith, append_assoc, length-append}
-use Rattle.std.specs.List.{flat_map, list_any, IsDistinct}
+use Rattle.std.proofs.Common.{◌≡◌, inr, ℕ, ◌+◌, ◌<◌, ◌≤◌, List, [], ◌∷◌, ◌++◌, length, get_or, map, Option, None, Some, Result, Ok, Err, ⊎_elim, refl, sym, ◌∙◌, ap, subst, arith, append_assoc, length-append}
+use Rattle.std.specs.List.{flat_map, IsDistinct}
 use Rattle.std.proofs.lemmas.List.{append-nil, get_or_append_left, map-append}
 use Rattle.std.proofs.lemmas.List.Concat.{flat_map-append}
 use Rattle.lg_model.specs.declared.column.Dims.{Dims}
@@ -21,7 +21,7 @@ use Rattle.book_file.specs.File.{IsColumnOf, IsRecord, AreRecords, header, body,
 use Rattle.book_file.specs.Found.{HasNoBody, Reaches, Suits, read_entry, book_of, count_of}
 use Rattle.book_file.specs.Walk.{IsGoing, Decides, HasCount, Steps}
 use Rattle.book_file.proofs.Bytes.{same_split}
-use Rattle.book_file.proofs.Apart.{AreNew, all_map, all_push, pass_all, apart_upload, apart_join, apart_split, all_new, not_all_new}
+use Rattle.book_file.proofs.Apart.{AreNew, all_map, all_push, pass_all, apart_upload, apart_join, apart_split}
 use Rattle.book_file.proofs.Bodies.{count_at, body_size, same_body}
 use Rattle.book_file.proofs.Heads.{header_len, header_one}
 use Rattle.book_file.proofs.Adding.{addable}
@@ -158,18 +158,15 @@ records_push : (es : List Entry) (e : Entry) → records (es ++ e ∷ []) ≡ re
 records_push es e = map-append (λ (x : Entry). x.stored) es (e ∷ [])
 
 module _ (u : UploadData) (b : BookState) (full : IsFull u) (fits : IsRecord (dims_of b.shape) u) where
-  pub key_known : list_any (λ c. not (is_new (content b.entries) c)) u.columns ≡ true → (more : List ℕ) → HasNoBody b.shape (records b.entries) (body u ++ more)
-  key_known any more r tail all is =
+  pub key_known : (AreNew (columns_in (records b.entries)) u.columns → ⊥) → (more : List ℕ) → HasNoBody b.shape (records b.entries) (body u ++ more)
+  key_known known_key more r tail all is =
       let dims = dims_of b.shape in
       let L = records b.entries in
       let same = same_body dims u r more tail fits (last_fits dims L r all) is in
       let parts = apart_split (columns_in L) r.columns (subst AreApart (columns_push L r) all.apart) in
-      not_all_new (content b.entries) u.columns any (subst (λ (x : UploadData). AreNew (columns_in L) x.columns) (sym same.0) parts.new)
+      known_key (subst (λ (x : UploadData). AreNew (columns_in L) x.columns) (sym same.0) parts.new)
 
-  module _ (none : list_any (λ c. not (is_new (content b.entries) c)) u.columns ≡ false) where
-    all_are_new : AreNew (columns_in (records b.entries)) u.columns
-    all_are_new = all_new (content b.entries) u.columns none
-
+  module _ (all_are_new : AreNew (columns_in (records b.entries)) u.columns) where
     well_formed : AreRecords (dims_of b.shape) (records b.entries) → AreRecords (dims_of b.shape) (records b.entries ++ u ∷ [])
     well_formed all = one_more (dims_of b.shape) (records b.entries) u all fits (apart_upload u.columns full.columns) all_are_new
 

@@ -1,7 +1,7 @@
 //! The steps of a walk.
-ghost use Rattle.std.specs.Prelude.{◌≡◌, ◌+◌, ◌≤◌, ◌++◌, ◌∷◌, ℕ, List, [], length, not, slice_index, Option};
+ghost use Rattle.std.specs.Prelude.{◌≡◌, ◌+◌, ◌^◌, ◌≤◌, ◌++◌, ◌∷◌, ℕ, List, [], length, true, slice_index, Option};
 ghost use Rattle.std.specs.Bool.{MatchBool};
-ghost use Rattle.std.specs.List.{list_any};
+ghost use Rattle.std.specs.List.{AllByRecursion};
 ghost use Rattle.lg_model.specs.Placing as model;
 ghost use Rattle.lg_model.specs.Columns as columns;
 ghost use Rattle.sketchlet_wire.specs.ShapeFields.{FitsShape};
@@ -10,15 +10,16 @@ ghost use Rattle.column_book.specs.declared.book.TheConstants.{ROOM};
 ghost use Rattle.column_book.specs.Entries.{BookState, content, records};
 ghost use Rattle.column_book.specs.Applying.{is_new};
 ghost use Rattle.book_file.specs.File.{IsRecord, body, body_len, front, header};
+ghost use Rattle.book_file.specs.Found.{count_of};
 ghost use Rattle.book_file.specs.Walk.{IsGoing, HasCount, Waits, Steps, needed};
 
 use crate::found::{Found, OpenFault};
 use crate::header::{dims_of, shape_of};
 use crate::reading::record_of;
 use crate::stage::Stage;
-use column_book::Book;
+use column_book::{Book, BookFault};
 use lg_model::Shape;
-use sketchlet_wire::{Column, Upload};
+use sketchlet_wire::Upload;
 use std::alloc::Global;
 
 fn damaged(at: u64) -> Stage
@@ -107,40 +108,63 @@ fn after_lead(book: Book, lead: &[u8], at: u64) -> Stage
     }
 }
 
-// Whether a key of theirs is in the book.
-fn holds_any(book: &Book, columns: &[Column]) -> bool
-    ensures { result ≡ list_any (λ c. not (is_new (content book.now.entries) c)) columns.now }
+// Whether the lowest bits of a mask are set, that many of at most 16.
+fn is_all(mask: u16, count: usize) -> bool
+    requires { count ≤ 16 }
+    ensures { MatchBool result (mask + 1 ≡ 2 ^ count) (mask + 1 ≡ 2 ^ count → ⊥) }
 {
-    for column in columns {
-        if book.find(&column.key()).is_some() {
-            return true;
-        }
-    }
-    false
+    u32::from(mask) + 1 == 1 << count
 }
 
-// After a body that is well formed by itself.
-fn after_record(mut book: Book, upload: &Upload, at: u64) -> Stage
+// After a record all of whose columns are new, and for which there is room.
+fn with_record(mut book: Book, upload: &Upload) -> Stage
     requires full { IsFull upload.now }
     requires record { IsRecord (columns.dims_of book.shape) upload.now }
-    ensures { (asked : Option model.Shape) (room len : ℕ) (rest : List ℕ) → IsGoing asked room at book
+    requires new { AllByRecursion (λ c. is_new (content book.entries) c ≡ true) upload.now.columns }
+    requires room { count_of (records book.entries) + length upload.now.columns ≤ book.room }
+    ensures { (asked : Option model.Shape) (room len at : ℕ) (rest : List ℕ) → IsGoing asked room at book
         → Steps asked room len at result rest (front book.shape (records book.entries) ++ 1 ∷ body upload.now) }
 {
-    let columns = upload.columns();
-    if holds_any(&book, columns) {
-        return damaged(at);
-    }
-    let held = book.count();
-    let more = columns.len() as u32;
-    if held + more > book.room() {
-        return Stage::Ended(Err(OpenFault::Full { held, more }));
-    }
     match book.reserve(upload) {
         Ok(()) => {
             book.add(0, upload);
             Stage::Gate(book)
         }
         Err(_) => given_up(),
+    }
+}
+
+// The fault of a record with that many columns, which a book refuses. It has no room for it where all of them are new;
+// else a key of theirs is in the book, which comes first.
+fn refused(fault: BookFault, count: usize, at: u64) -> OpenFault
+    ensures full { (held : ℕ) → fault ≡ BookFault.Full held count → result ≡ OpenFault.Full held count }
+    ensures other { ((held : ℕ) → fault ≡ BookFault.Full held count → ⊥) → result ≡ OpenFault.Damaged at }
+{
+    if let BookFault::Full { held, more } = fault {
+        if more as usize == count {
+            return OpenFault::Full { held, more };
+        }
+    }
+    OpenFault::Damaged { at }
+}
+
+// After a body that is well formed by itself.
+fn after_record(book: Book, upload: &Upload, at: u64) -> Stage
+    requires full { IsFull upload.now }
+    requires record { IsRecord (columns.dims_of book.shape) upload.now }
+    ensures { (asked : Option model.Shape) (room len : ℕ) (rest : List ℕ) → IsGoing asked room at book
+        → Steps asked room len at result rest (front book.shape (records book.entries) ++ 1 ∷ body upload.now) }
+{
+    let count = upload.columns().len();
+    match book.check(upload) {
+        Ok(mask) => {
+            if is_all(mask, count) {
+                with_record(book, upload)
+            } else {
+                damaged(at)
+            }
+        }
+        Err(fault) => Stage::Ended(Err(refused(fault, count, at))),
     }
 }
 

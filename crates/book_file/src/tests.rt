@@ -172,6 +172,16 @@ const TWICE: [u8; 48] = [
     0, 1, 0, 0, 0, 0, 0, 0, 0, 0, 5, 0xDC, 0, 0x14, 0, 0, 5, 0xDC, 0, 0x14,
 ];
 
+// Records of the first one's column: with other buckets, and before a column of another switch.
+const DIFFERS: [u8; 28] = [
+    1, 0, 1, 0, 0, 0, 1, 1, 0, 1, 0, 0, 0, 0, 0, 0, 0, 0, 5, 0xDC, 0, 0x14, 0, 0, 5, 0xDC, 0, 0x15,
+];
+
+const PARTLY: [u8; 48] = [
+    1, 0, 1, 0, 0, 0, 1, 2, 0, 1, 0, 0, 0, 0, 0, 0, 0, 0, 5, 0xDC, 0, 0x14, 0, 0, 5, 0xDC, 0, 0x14,
+    0, 2, 0, 0, 0, 0, 0, 0, 0, 0, 5, 0xDC, 0, 0x14, 0, 0, 5, 0xDC, 0, 0x14,
+];
+
 #[test]
 fn files_of_parts(rt: HostRuntime) -> Result<(), Fail> {
     let worked = Shape::new(2, 1, Hash::Ports).ok_or("no shape")?;
@@ -184,6 +194,8 @@ fn files_of_parts(rt: HostRuntime) -> Result<(), Fail> {
     let one: &[u8] = &ONE;
     let other: &[u8] = &OTHER;
     let twice: &[u8] = &TWICE;
+    let differs: &[u8] = &DIFFERS;
+    let partly: &[u8] = &PARTLY;
     let foreign: &[u8] = &[1, 0x4D];
     let zeros: &[u8] = &[0; 19];
     let shut = &zeros[..1];
@@ -194,6 +206,9 @@ fn files_of_parts(rt: HostRuntime) -> Result<(), Fail> {
         ([head, one, one, shut], None, 2, UNENDED),
         // A key that is known is told before the room.
         ([head, one, one, shut], None, 1, UNENDED),
+        ([head, one, differs, shut], None, 2, UNENDED),
+        ([head, one, partly, shut], None, 3, UNENDED),
+        ([head, one, partly, shut], None, 1, UNENDED),
         ([head, twice, shut, none], None, 2, DAMAGED),
         // Bytes after the closing gate mean nothing.
         ([head, one, shut, other], None, 1, WHOLE),

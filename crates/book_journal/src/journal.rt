@@ -59,6 +59,7 @@ impl<D: Disk> Journal<D> {
     /// A refused file is told by its first fault, `NotAJournal`, `WrongShape`, `Damaged` or `Full`, and was only read.
     /// `DiskFault` comes only where the disk's count of faults rose, or stands at its last value. Whatever the answer,
     /// a file that isn't blank is as before, and a blank one still stands for the empty list; so it is after a crash.
+    /// A journal on an honest disk is a run from where it stands.
     pub fn open(
         alloc: Global,
         disk: D,
@@ -78,6 +79,9 @@ impl<D: Disk> Journal<D> {
         // A file that stands for a list which there is room for has no fault of its own.
         ensures complete { D.honest disk → (rs : List UploadData) → StandsFor shape.now rs (D.seen disk) →
             count_of rs ≤ room → IfErr result (λ e. IsOutside e.0) }
+        ensures runs { IfOk result (λ j. D.honest j.disk →
+            IsRun D.honest D.seen D.images D.moment D.since (start_of D.seen D.moment j) j) }
+        ensures was { D.honest (disk_of result) → D.honest disk }
         ensures never_falls { D.faults disk ≤ D.faults (disk_of result) }
         ensures cause { IfErr result (λ e. e.0 ≡ open_faults.DiskFault → Rose (D.faults disk) (D.faults e.1)) }
     {
