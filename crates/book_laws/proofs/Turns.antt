@@ -100,7 +100,7 @@ stands w first turns es rest is =
 
 -- ---- one turn more
 
-stored_is : (es : List Entry) (pass : ℕ) (u : UploadData) (cs : List Column) → 1 ≤ length cs → with_new es pass u cs ≡ es ++ entry_with pass u cs ∷ []
+pub stored_is : (es : List Entry) (pass : ℕ) (u : UploadData) (cs : List Column) → 1 ≤ length cs → with_new es pass u cs ≡ es ++ entry_with pass u cs ∷ []
 stored_is es pass u [] some = absurd (omega (arith, some))
 stored_is es pass u (c ∷ cs) some = refl
 

@@ -1,6 +1,9 @@
 pub mod Keeping
 pub mod OneOutcome
 pub mod EndLemmas
-pub mod BookLemmas
 pub mod GivingLemmas
 pub mod Listing
+pub mod Taking
+pub mod HostTurns
+pub mod AckedLines
+pub mod Told

@@ -1,4 +1,5 @@
--- How the program ends: what it answers and why, what it writes, and what it does to its source and its sink.
+-- How a command ends that never writes to the disk: what it answers and why, what it writes, and what it does to its source
+-- and its sink.
 use Rattle.std.specs.Prelude.{◌≡◌, ◌⊎◌, ◌↔◌, ℕ, ◌≤◌, true, List, Option, None, IfSome, Result, Ok, Err}
 use Rattle.lg_model.specs.Scenario.{Scenario}
 use Rattle.scenario_text.specs.Text.{Fault, reading}
@@ -78,6 +79,7 @@ Wrote status.DiskFault sink text = WritesSome sink text
 Wrote status.NotAJournal sink text = WritesSome sink text
 Wrote status.WrongShape sink text = WritesSome sink text
 Wrote status.Damaged sink text = WritesSome sink text
+Wrote status.Conflict sink text = WritesSome sink text
 Wrote status.Full sink text = WritesSome sink text
 Wrote status.NoMemory sink text = WritesSome sink text
 Wrote status.Missing sink text = WritesSome sink text

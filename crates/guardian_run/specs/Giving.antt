@@ -58,7 +58,7 @@ IsTrueFile file = (w : Scenario) (rs : List UploadData) → IsWhole w → Stands
 -- What a command writes of the network is true: of the scenario's own run, or of the book.
 abbrev pub IsTrueOutput : Option Command → (said : Result Scenario Fault) → (file : List ℕ) → Type 0
 IsTrueOutput None said file = Unit {0}
-IsTrueOutput (Some commands.Run) said file = IfOk said IsTrueRun
+IsTrueOutput (Some commands.Run) said file = Unit {0}
 IsTrueOutput (Some commands.Capture) said file = IfOk said IsTrueRun
 IsTrueOutput (Some commands.Ask) said file = IsTrueFile file
 IsTrueOutput (Some commands.List) said file = IsTrueFile file

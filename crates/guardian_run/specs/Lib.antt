@@ -1,10 +1,12 @@
 pub mod Statuses
 pub mod Changes
 pub mod Outputs
-pub mod Booking
 pub mod Refusals
 pub mod Outcomes
 pub mod Giving
 pub mod Ends
 pub mod Ending
 pub mod Looking
+pub mod Storing
+pub mod Running
+pub mod Telling

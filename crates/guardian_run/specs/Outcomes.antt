@@ -1,5 +1,6 @@
--- What a command comes to: its output, or why it is refused, by what the input says and what the book's file holds.
-use Rattle.std.specs.Prelude.{◌≡◌, ℕ, ◌<◌, ◌≤◌, Bool, true, false, List, length, filter, Option, Some, None, Result, Ok, Err, IsOk}
+-- What a command that never writes to the disk comes to: its output, or why it is refused, by what the input says and what
+-- the book's file holds. How `run` ends is said in Running.
+use Rattle.std.specs.Prelude.{◌≡◌, ℕ, ◌<◌, ◌≤◌, Bool, true, false, List, length, filter, Option, Some, None, Result, Ok, Err}
 use Rattle.lg_model.specs.Placing.{Shape}
 use Rattle.lg_model.specs.Scenario.{Scenario}
 use Rattle.lg_model.specs.Columns.{dims_of}
@@ -9,14 +10,11 @@ use Rattle.sumax_sketch.specs.SketchState.{SketchState}
 use Rattle.scenario_parts.specs.Whole.{IsWhole}
 use Rattle.scenario_text.specs.Text.{Fault}
 use Rattle.column_book.specs.declared.book.TheConstants.{ROOM}
-use Rattle.column_book.specs.declared.fault.BookFault.TheVariants as book
 use Rattle.column_book.specs.Entries.{content_in, columns_in, is_of}
 use Rattle.flow_query.specs.Rebuilt.{IsRebuilt}
 use Rattle.book_file.specs.declared.found.OpenFault.TheVariants as faults
 use Rattle.book_file.specs.File.{IsBlank, StandsFor}
 use Rattle.book_file.specs.Found.{Finds, count_of}
-use Rattle.run_laws.specs.Truth.{book_of}
-use Rattle.run_laws.specs.Booking.{booked}
 use Rattle.report_text.specs.Report.{report}
 use Rattle.guardian_words.specs.declared.commands.Command.{Command}
 use Rattle.guardian_words.specs.declared.commands.Command.TheVariants as commands
@@ -28,12 +26,7 @@ use Rattle.guardian_run.specs.Outputs.{capture_of, list_of, sketch_of}
 abbrev pub Outcome : Type 0
 Outcome = Result (List ℕ) Refusal
 
--- ---- commands that run a network
-
--- `run`: the report on the book of the run, or that a book has no room for it.
-abbrev pub Runs : Scenario → Outcome → Type 0
-Runs w (Ok text) = IsOk (booked w) × (text ≡ report (book_of w) w)
-Runs w (Err refusal) = (held : ℕ) × (more : ℕ) × (booked w ≡ Err (book.Full held more)) × (refusal ≡ refusals.Full held more)
+-- ---- the command that runs a network alone
 
 -- `capture`: the sketchlets that come to the hosts.
 abbrev pub Captures : Scenario → Outcome → Type 0
@@ -131,11 +124,11 @@ abbrev pub WithScenario : (Scenario → Outcome → Type 0) → Result Scenario 
 WithScenario next (Err (n, why)) outcome = outcome ≡ Err (refusals.BadScenario n why)
 WithScenario next (Ok w) outcome = IsWhole w × next w outcome
 
--- What a call comes to that was asked for this command, or for none, where `said` is what the input says and `file` what
+-- What a call comes to that was asked for this command, or for none, and not for `run`, where `said` is what the input says and `file` what
 -- the book's file holds.
 abbrev pub Comes : Option Command → (said : Result Scenario Fault) → (file : List ℕ) → Outcome → Type 0
 Comes None said file outcome = outcome ≡ Err refusals.BadWords
-Comes (Some commands.Run) said file outcome = WithScenario Runs said outcome
+Comes (Some commands.Run) said file outcome = ⊥
 Comes (Some commands.Capture) said file outcome = WithScenario Captures said outcome
 Comes (Some commands.Ask) said file outcome = WithScenario (Asks file) said outcome
 Comes (Some commands.List) said file outcome = Lists file outcome
@@ -157,7 +150,7 @@ reads_text (Some (commands.Rebuild s e)) = false
 
 abbrev pub looks_at_file : Option Command → Bool
 looks_at_file None = false
-looks_at_file (Some commands.Run) = false
+looks_at_file (Some commands.Run) = true
 looks_at_file (Some commands.Capture) = false
 looks_at_file (Some commands.Ask) = true
 looks_at_file (Some commands.List) = true

@@ -1,9 +1,8 @@
 -- The exit status of each end.
 use Rattle.std.specs.Prelude.{ℕ}
 use Rattle.guardian_run.specs.declared.status.Status.{Status}
-use Rattle.guardian_run.specs.declared.status.Status.TheVariants.{Ok, BadWords, BadScenario, ReadFault, WriteFault, DiskFault, NotAJournal, WrongShape, Damaged, Full, NoMemory, Missing}
+use Rattle.guardian_run.specs.declared.status.Status.TheVariants.{Ok, BadWords, BadScenario, ReadFault, WriteFault, DiskFault, NotAJournal, WrongShape, Damaged, Conflict, Full, NoMemory, Missing}
 
--- The number 9 is kept for an end that the program does not have yet.
 abbrev pub code_of : Status → ℕ
 code_of Ok = 0
 code_of BadWords = 1
@@ -14,6 +13,7 @@ code_of DiskFault = 5
 code_of NotAJournal = 6
 code_of WrongShape = 7
 code_of Damaged = 8
+code_of Conflict = 9
 code_of Full = 10
 code_of NoMemory = 11
 code_of Missing = 12

@@ -3,10 +3,12 @@ ghost use Rattle.std.specs.Prelude.{◌≡◌, ◌≤◌, IfOk, IfErr};
 ghost use Rattle.guardian_run.specs.Changes.{change, WritesSome};
 ghost use Rattle.report_text.specs.Faults.{no_memory_line as no_memory};
 ghost use Rattle.guardian_run.specs.declared.status.Status.TheVariants.{NoMemory};
-ghost use Rattle.guardian_run.specs.Ending.{EndsWith, EndsRefused};
+ghost use Rattle.guardian_run.specs.Ending.{EndsWith, EndsWithLine, EndsRefused};
+ghost use Rattle.guardian_run.specs.Telling.{EndsTold};
 
 use crate::refusal::Refusal;
 use crate::status::Status;
+use crate::telling::Told;
 use lg_base::{Memory, Sink, put_all};
 use report_text::{
     blank_line, damaged_line, disk_fault_line, full_line, missing_line, no_memory_line,
@@ -90,5 +92,20 @@ pub fn end<K: Sink>(alloc: Global, given: Result<Vec<u8>, Refusal>, sink: &mut K
     match given {
         Ok(text) => put_output(sink, &text),
         Err(refusal) => put_refusal(alloc, refusal, sink),
+    }
+}
+
+/// Writes what a run tells, and answers the status: that of what is told, or `WriteFault` where the sink does not take the
+/// report. Where memory ran out, the line of that is written alone.
+pub(crate) fn end_run<K: Sink>(told: Result<Told, Memory>, sink: &mut K) -> Status
+    ensures told { IfOk told (λ t. EndsTold t (change K.written K.faults sink.old sink.new) result) }
+    ensures starved { IfErr told (λ _. EndsWithLine NoMemory no_memory (change K.written K.faults sink.old sink.new) result) }
+{
+    match told {
+        Ok(Told::Report(text)) => put_output(sink, &text),
+        Ok(Told::Conflict(text)) => put_fault(sink, &text, Status::Conflict),
+        Ok(Told::Full(text)) => put_fault(sink, &text, Status::Full),
+        Ok(Told::DiskFault(text)) => put_fault(sink, &text, Status::DiskFault),
+        Err(_) => put_fault(sink, no_memory_line(), Status::NoMemory),
     }
 }

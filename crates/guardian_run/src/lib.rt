@@ -12,7 +12,6 @@
 #![tactic(auto)]
 
 mod ask;
-mod booking;
 mod capture;
 mod ending;
 mod list;
@@ -22,6 +21,8 @@ mod refusal;
 mod reporting;
 mod run;
 mod status;
+mod storing;
+mod telling;
 #[cfg(test)]
 mod tests;
 mod top;

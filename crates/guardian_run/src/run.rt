@@ -1,31 +1,57 @@
-//! The command `run`: the book of a run, and the report on it.
-ghost use Rattle.std.specs.Prelude.{Ok, Err, IfOk, IfErr};
+//! The command `run`: a scenario's network is run, what comes to the hosts is added to the book of the disk's file, and the
+//! report is on that book.
+ghost use Rattle.std.specs.Prelude.{◌≡◌};
+ghost use Rattle.scenario_parts.specs.Whole.{IsWhole};
 ghost use Rattle.guardian_run.specs.Changes.{change};
-ghost use Rattle.guardian_run.specs.Outcomes.{Runs};
-ghost use Rattle.guardian_run.specs.Giving.{GivesOfText};
+ghost use Rattle.guardian_run.specs.Running.{RunsFrom, RunEnds};
 
-use crate::booking::book_run;
+use crate::ending::{end, end_run};
 use crate::refusal::Refusal;
-use crate::reporting::report;
-use lg_base::Source;
-use path_sim::run_own;
-use run_laws::runs_are_true;
-use scenario_text::read;
+use crate::status::Status;
+use crate::telling::tell;
+use book_journal::Journal;
+use book_laws::{files_stand_for_one_list, lists_are_true};
+use column_book::ROOM;
+use lg_base::{Sink, Source};
+use lg_disk::Disk;
+use scenario_text::{Scenario, read};
 use std::alloc::Global;
 
-/// Reads a scenario from the source, runs its network and gives the report on what came to the hosts.
-///
-/// `BadScenario` where the input is no scenario text, `ReadFault` only where the source's count of faults rose in this
-/// call or stands at its last value, `Full` exactly where a book has no room for the columns that came to the hosts,
-/// `Memory` where no memory was found.
-pub fn run<S: Source>(alloc: Global, source: &mut S) -> Result<Vec<u8>, Refusal>
-    ensures output { IfOk result (λ text. GivesOfText Runs (change S.left S.faults source.old source.new) (Ok text.items)) }
-    ensures refused { IfErr result (λ refusal. GivesOfText Runs (change S.left S.faults source.old source.new) (Err refusal)) }
+// Runs a scenario over the book of a disk, which is handed back, and writes what there is to tell.
+fn run_over<K: Sink, D: Disk>(alloc: Global, scenario: &Scenario, sink: &mut K, disk: D) -> (Status, D)
+    ensures ends { RunsFrom D.honest D.seen D.images D.moment D.since D.faults scenario.now
+        (change K.written K.faults sink.old sink.new) disk result.1 result.0 }
+    ensures whole { IsWhole scenario.now }
 {
-    runs_are_true();
-    let scenario = read(alloc, source)?;
-    let arrivals = run_own(alloc, &scenario)?;
-    let book = book_run(alloc, &scenario, &arrivals)?;
-    let text = report(alloc, &scenario, &book)?;
-    Ok(text)
+    lists_are_true();
+    files_stand_for_one_list();
+    let mut journal = match Journal::open(alloc, disk, &scenario.shape(), ROOM) {
+        Ok(journal) => journal,
+        Err((fault, disk)) => return (end(alloc, Err(Refusal::from(fault)), sink), disk),
+    };
+    let told = tell(alloc, scenario, &mut journal);
+    let (_, disk) = journal.close();
+    (end_run(told, sink), disk)
+}
+
+/// Reads a scenario from the source, opens the book of the disk's file with its shape, runs its network, applies the uploads
+/// of what came to the hosts, and writes the report on the book into the sink. The disk is handed back at every end.
+///
+/// `BadScenario` where the input is no scenario text; then the faults of the file in their order; then `Conflict` and `Full`
+/// by the first upload that the book does not take, `DiskFault` where the disk failed, each after the lines of the uploads
+/// that were acknowledged. `ReadFault`, `WriteFault` and `DiskFault` come only where that count of faults rose in this call
+/// or stands at its last value, `NoMemory` where no memory was found. What was booked before a refusal stays.
+pub fn run<S: Source, K: Sink, D: Disk>(
+    alloc: Global,
+    source: &mut S,
+    sink: &mut K,
+    disk: D,
+) -> (Status, D)
+    ensures { RunEnds D.honest D.seen D.images D.moment D.since D.faults (change S.left S.faults source.old source.new)
+        (change K.written K.faults sink.old sink.new) disk result.1 result.0 }
+{
+    match read(alloc, source) {
+        Ok(scenario) => run_over(alloc, &scenario, sink, disk),
+        Err(fault) => (end(alloc, Err(Refusal::from(fault)), sink), disk),
+    }
 }

@@ -23,6 +23,8 @@ pub enum Status {
     WrongShape,
     /// The book's file is damaged.
     Damaged,
+    /// The book has a column of the key of one that came, with other counters.
+    Conflict,
     /// A book has no room for the columns that came to the hosts, or for those of its file.
     Full,
     /// No memory was found.
@@ -46,6 +48,7 @@ impl Status {
             Status::NotAJournal => 6,
             Status::WrongShape => 7,
             Status::Damaged => 8,
+            Status::Conflict => 9,
             Status::Full => 10,
             Status::NoMemory => 11,
             Status::Missing => 12,

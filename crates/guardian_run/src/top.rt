@@ -1,5 +1,5 @@
 //! The top calls.
-ghost use Rattle.std.specs.Prelude.{◌≡◌, Some};
+ghost use Rattle.std.specs.Prelude.{◌≡◌, ◌≢◌, Some};
 ghost use Rattle.std.specs.Bool.{MatchBool};
 ghost use Rattle.guardian_words.specs.declared.commands.Command.TheVariants.{Run};
 ghost use Rattle.guardian_words.specs.Words.{asked};
@@ -7,6 +7,7 @@ ghost use Rattle.book_journal.specs.Crashes.{OnlyReads};
 ghost use Rattle.guardian_run.specs.Changes.{change, disk_change};
 ghost use Rattle.guardian_run.specs.Outcomes.{reading_command, LawOfOutcomes};
 ghost use Rattle.guardian_run.specs.Ends.{Ends};
+ghost use Rattle.guardian_run.specs.Running.{RunEnds};
 
 use crate::ask::ask;
 use crate::capture::capture;
@@ -56,7 +57,7 @@ pub fn guardian_read<S: Source, K: Sink, D: Disk>(
 
 // Whether a command may write to the disk.
 fn is_run(command: Option<Command>) -> bool
-    ensures { MatchBool result (command ≡ Some Run) (reading_command command ≡ command) }
+    ensures { MatchBool result (command ≡ Some Run) ((reading_command command ≡ command) × (command ≢ Some Run)) }
 {
     match command {
         Some(Command::Run) => true,
@@ -68,22 +69,26 @@ fn is_run(command: Option<Command>) -> bool
     }
 }
 
-/// Does what the words say: `run` reads a scenario from the source, runs its network and writes the report into the sink;
-/// `ask` reads a scenario and writes the report on the book of the disk's file, `list` all columns of that book, and
-/// `rebuild` a sketch of them; `capture` writes the sketchlets that came to the hosts. How it ends is the record `Ends`
-/// (docs/DEFINITIONS.md, Ends). No command writes to the disk yet; it is handed back.
+/// Does what the words say: `run` reads a scenario from the source, runs its network, adds what came to the hosts to the book
+/// of the disk's file, and writes the report on that book into the sink; `ask` reads a scenario and writes the report on the
+/// book as it is, `list` all its columns, and `rebuild` a sketch of them; `capture` writes the sketchlets that came to the
+/// hosts. The disk is handed back at every end. How a call ends is the record `RunEnds` for `run`, and `Ends` for every other
+/// command (docs/DEFINITIONS.md, Ends).
 ///
-/// At `Ok` the output was written, at `WriteFault` a front of it, at every other status the fault line, or a front of it
-/// where the sink failed. What is written of a network is true: of the scenario's own run, and of a book that agrees with
-/// the scenario.
+/// At `Ok` the output was written, at `WriteFault` a front of it; at `Conflict`, `Full` and `DiskFault` of a run a line for each
+/// acknowledged upload and the fault line, at every other status the fault line alone, or a front of that where the sink
+/// failed. What is written of a network is true: of the scenario's own run, and of a book that agrees with the scenario.
 ///
-/// `BadWords` exactly where the words are no command; nothing is read then. Unless `ReadFault`, `DiskFault` or `NoMemory`
-/// comes, each other status comes exactly where its cause is there, the first in this order: `BadScenario` where a scenario
-/// is read and the input is no scenario text; `NotAJournal`, `WrongShape`, `Damaged` and `Full` where the book is looked at
-/// and its file has that fault first; `Missing` where a sketch is to be rebuilt and fewer columns than its width are in the
-/// book, or the book is blank; `Full` where `run` finds more columns at the hosts than the 262,144 of a book. `ReadFault`,
-/// `WriteFault` and `DiskFault` come only where the source's, the sink's or the disk's count of faults rose in this call or
-/// stands at its last value, `NoMemory` where no memory was found.
+/// `BadWords` exactly where the words are no command; nothing is read then. `BadScenario` where a scenario is read and the input
+/// is no scenario text; then `NotAJournal`, `WrongShape`, `Damaged` and `Full` where the book's file has that fault first;
+/// `Missing` where a sketch is to be rebuilt and fewer columns than its width are in the book, or the book is blank. `run` ends
+/// with `Conflict` where a column that came to a host has other counters than the book's column of its key, and with `Full`
+/// where both together have more keys than a book has room for. `ReadFault`, `WriteFault` and `DiskFault` come only where the
+/// source's, the sink's or the disk's count of faults rose in this call or stands at its last value, `NoMemory` where no memory
+/// was found.
+///
+/// All commands but `run` only read the disk. What a run leaves is legal at every moment, a crash included; each acknowledged
+/// upload is in every file that a crash may leave now; and where all that is brought was there, the file stays as it was.
 pub fn guardian<S: Source, K: Sink, D: Disk>(
     alloc: Global,
     words: &[String],
@@ -91,13 +96,14 @@ pub fn guardian<S: Source, K: Sink, D: Disk>(
     sink: &mut K,
     mut disk: D,
 ) -> (Status, D)
-    ensures ends { Ends (asked words.now) (change S.left S.faults source.old source.new)
+    ensures runs { asked words.now ≡ Some Run → RunEnds D.honest D.seen D.images D.moment D.since D.faults
+        (change S.left S.faults source.old source.new) (change K.written K.faults sink.old sink.new) disk result.1 result.0 }
+    ensures ends { asked words.now ≢ Some Run → Ends (asked words.now) (change S.left S.faults source.old source.new)
         (change K.written K.faults sink.old sink.new) (disk_change D.honest D.seen D.faults disk result.1) result.0 }
-    ensures reads { OnlyReads D.honest D.seen D.images D.moment D.since disk result.1 }
+    ensures reads { asked words.now ≢ Some Run → OnlyReads D.honest D.seen D.images D.moment D.since disk result.1 }
 {
     if is_run(command(words)) {
-        let status = end(alloc, run(alloc, source), sink);
-        return (status, disk);
+        return run(alloc, source, sink, disk);
     }
     let status = guardian_read(alloc, words, source, sink, &mut disk);
     (status, disk)
