@@ -15,10 +15,12 @@ same_split (c ∷ a) (d ∷ b) x y long same =
     ((λ i. head i ∷ rest.0 i), rest.1)
 
 pub same_2 : (m n : ℕ) → m < 2 ^ 16 → n < 2 ^ 16 → to_be_bytes w16 m ≡ to_be_bytes w16 n → m ≡ n
-same_2 m n small_m small_n same = sym (from_be_bytes-to_be_bytes_2 m small_m) ∙ ap (λ (bs : List ℕ). from_be_bytes w16 bs) same ∙ from_be_bytes-to_be_bytes_2 n small_n
+same_2 m n small_m small_n same = sym (from_be_bytes-to_be_bytes_2 m small_m) ∙ ap (λ (bs : List ℕ). from_be_bytes w16 bs) same
+    ∙ from_be_bytes-to_be_bytes_2 n small_n
 
 pub same_4 : (m n : ℕ) → m < 2 ^ 32 → n < 2 ^ 32 → to_be_bytes w32 m ≡ to_be_bytes w32 n → m ≡ n
-same_4 m n small_m small_n same = sym (from_be_bytes-to_be_bytes_4 m small_m) ∙ ap (λ (bs : List ℕ). from_be_bytes w32 bs) same ∙ from_be_bytes-to_be_bytes_4 n small_n
+same_4 m n small_m small_n same = sym (from_be_bytes-to_be_bytes_4 m small_m) ∙ ap (λ (bs : List ℕ). from_be_bytes w32 bs) same
+    ∙ from_be_bytes-to_be_bytes_4 n small_n
 
 pub front_2 : (m n : ℕ) (x y : List ℕ) → m < 2 ^ 16 → n < 2 ^ 16 → to_be_bytes w16 m ++ x ≡ to_be_bytes w16 n ++ y → (m ≡ n) × (x ≡ y)
 front_2 m n x y small_m small_n same =

@@ -1,5 +1,6 @@
 -- What a check of a record says.
-use Rattle.std.proofs.Common.{◌≡◌, ℕ, suc, ◌+◌, ◌*◌, ◌^◌, ◌≤◌, Bool, true, false, cond, List, [], ◌∷◌, length, map, Result, Ok, Err, refl, sym, ◌∙◌, ap, subst, arith}
+use Rattle.std.proofs.Common.{◌≡◌, ℕ, suc, ◌+◌, ◌*◌, ◌^◌, ◌≤◌, Bool, true, false, cond, List, [], ◌∷◌, length, map, Result, Ok, Err, refl}
+use Rattle.std.proofs.Common.{sym, ◌∙◌, ap, subst, arith}
 use Rattle.std.specs.Prelude.{filter, is_none, slice_index_or, if◌then◌else◌}
 use Rattle.std.specs.List.{AllByRecursion}
 use Rattle.std.proofs.lemmas.List.Elements.{All-from_recursion}
@@ -31,7 +32,8 @@ all_bits p (c ∷ cs) all = let rest = all_bits p cs all.1 in rw (all.0) (omega 
 pub bits_all : (p : Column → Bool) (cs : List Column) → mask_of (map p cs) + 1 ≡ 2 ^ length cs → AllByRecursion (λ c. p c ≡ true) cs
 bits_all p [] h = tt
 bits_all p (c ∷ cs) h =
-    (elim (p c) as (λ b. p c ≡ b → (if b then 1 else 0) + 2 * mask_of (map p cs) + 1 ≡ 2 ^ length (c ∷ cs) → AllByRecursion (λ x. p x ≡ true) (c ∷ cs)) [
+    (elim (p c) as (λ b. p c ≡ b → (if b then 1 else 0) + 2 * mask_of (map p cs) + 1 ≡ 2 ^ length (c ∷ cs)
+    → AllByRecursion (λ x. p x ≡ true) (c ∷ cs)) [
       | true ↦ λ yes e. (yes, bits_all p cs (omega (arith, e, double (length cs))))
       | false ↦ λ no e. absurd (omega (arith, e, double (length cs)))
     ]) refl h
@@ -46,14 +48,16 @@ fewer p (c ∷ cs) = let rest = fewer p cs in (elim (p c) as (λ b. length (cond
 pub count_all : (p : Column → Bool) (cs : List Column) → length (filter p cs) ≡ length cs → AllByRecursion (λ c. p c ≡ true) cs
 count_all p [] h = tt
 count_all p (c ∷ cs) h = let few = fewer p cs in
-    (elim (p c) as (λ b. p c ≡ b → length (cond b (c ∷ filter p cs) (filter p cs)) ≡ length (c ∷ cs) → AllByRecursion (λ x. p x ≡ true) (c ∷ cs)) [
+    (elim (p c) as (λ b. p c ≡ b → length (cond b (c ∷ filter p cs) (filter p cs)) ≡ length (c ∷ cs)
+    → AllByRecursion (λ x. p x ≡ true) (c ∷ cs)) [
       | true ↦ λ yes e. (yes, count_all p cs (omega (arith, e)))
       | false ↦ λ no e. absurd (omega (arith, few, e))
     ]) refl h
 
 -- ---- what follows from a check
 
-room_left : (shape : Shape) (room : ℕ) (rs : List UploadData) (u : UploadData) (new : List Column) → Follows shape room rs u (Ok new) → HasRoomFor shape room rs u
+room_left : (shape : Shape) (room : ℕ) (rs : List UploadData) (u : UploadData) (new : List Column) → Follows shape room rs u (Ok new)
+    → HasRoomFor shape room rs u
 room_left shape room rs u [] f = f.taken
 room_left shape room rs u (c ∷ cs) f = f.taken
 
@@ -84,7 +88,8 @@ module _ (shape : Shape) (room : ℕ) (es : List Entry) (u : UploadData) where
 
   refusal : (f : BookFault) → checked shape room rs u ≡ Err f → Follows shape room rs u (Err f)
   refusal f is =
-      subst (λ (d : Result (List Column) BookFault). Follows shape room rs u d) ((law shape room es 0 u).refused f is).0 (outcomes shape room rs u)
+      subst (λ (d : Result (List Column) BookFault). Follows shape room rs u d) ((law shape room es 0 u).refused f is).0
+      (outcomes shape room rs u)
 
   -- where the room is too small, all columns are new exactly where as many as there are have none
   module _ (held more : ℕ) (is : checked shape room rs u ≡ Err (Full held more)) where
@@ -103,10 +108,13 @@ module _ (shape : Shape) (room : ℕ) (es : List Entry) (u : UploadData) where
       let f = refusal (Conflict key kept came) is in
       let one : is_new (content_in rs) (slice_index_or u.columns f.at no_column) ≡ true =
       All-from_recursion (λ c. new c ≡ true) u.columns all f.at no_column f.inside in
-      let here : is_none (found (content_in rs) key) ≡ true = ap (λ (k : Key). is_none (found (content_in rs) k)) (sym (ap (λ (c : Column). c.key) f.is ∙ f.under)) ∙ one in
+      let here : is_none (found (content_in rs) key) ≡ true =
+      ap (λ (k : Key). is_none (found (content_in rs) k)) (sym (ap (λ (c : Column). c.key) f.is ∙ f.under)) ∙ one in
       absurd (cc)
 
-  pub no_misfit : (kept came : Dims) → checked shape room rs u ≡ Err (WrongShape kept came) → AllByRecursion (λ (c : Column). c.dims ≡ dims_of shape) u.columns → ⊥
+  pub no_misfit : (kept came : Dims) → checked shape room rs u ≡ Err (WrongShape kept came)
+      → AllByRecursion (λ (c : Column). c.dims ≡ dims_of shape) u.columns → ⊥
   no_misfit kept came is sized =
       let f = refusal (WrongShape kept came) is in
-      f.1.0.other (ap (λ (c : Column). c.dims) (sym f.1.0.is) ∙ All-from_recursion (λ (c : Column). c.dims ≡ dims_of shape) u.columns sized f.1.0.at no_column f.1.0.inside)
+      f.1.0.other (ap (λ (c : Column). c.dims) (sym f.1.0.is)
+      ∙ All-from_recursion (λ (c : Column). c.dims ≡ dims_of shape) u.columns sized f.1.0.at no_column f.1.0.inside)

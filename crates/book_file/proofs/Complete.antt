@@ -17,7 +17,8 @@ pub read_back : (rs : List UploadData) → records (map read_entry rs) ≡ rs
 read_back [] = refl
 read_back (r ∷ rs) = ap (λ (l : List UploadData). r ∷ l) (read_back rs)
 
-pub book_found : (asked : Option Shape) (shape : Shape) (room : ℕ) (L : List UploadData) (file : List ℕ) → Suits asked shape → Spells shape L file → count_of L ≤ room
+pub book_found : (asked : Option Shape) (shape : Shape) (room : ℕ) (L : List UploadData) (file : List ℕ) → Suits asked shape
+    → Spells shape L file → count_of L ≤ room
     → Finds asked room file (Ok (Book (book_of shape room L) (length (front shape L))))
 book_found asked shape room L file suits spells few = record {
   suits = suits;
@@ -27,11 +28,14 @@ book_found asked shape room L file suits spells few = record {
   place = ap (λ (rs : List UploadData). length (front shape rs)) (sym (read_back L));
 }
 
-found_some : (asked : Option Shape) (shape : Shape) (room : ℕ) (L : List UploadData) (file : List ℕ) → Suits asked shape → StandsFor shape L file → count_of L ≤ room → (r : Found) × Finds asked room file (Ok r)
+found_some : (asked : Option Shape) (shape : Shape) (room : ℕ) (L : List UploadData) (file : List ℕ) → Suits asked shape
+    → StandsFor shape L file → count_of L ≤ room → (r : Found) × Finds asked room file (Ok r)
 found_some asked shape room L file suits (inl blank) few = (Blank, blank.0)
-found_some asked shape room L file suits (inr s) few = (Book (book_of shape room L) (length (front shape L)), book_found asked shape room L file suits s few)
+found_some asked shape room L file suits (inr s) few =
+    (Book (book_of shape room L) (length (front shape L)), book_found asked shape room L file suits s few)
 
-never_both : (asked : Option Shape) (room : ℕ) (file : List ℕ) (r : Found) (f : OpenFault) → Finds asked room file (Ok r) → Finds asked room file (Err f) → (f ≡ Memory → ⊥) → ⊥
+never_both : (asked : Option Shape) (room : ℕ) (file : List ℕ) (r : Found) (f : OpenFault) → Finds asked room file (Ok r)
+    → Finds asked room file (Err f) → (f ≡ Memory → ⊥) → ⊥
 never_both asked room file r f a b free =
     let same = one_answer asked room file (Ok r) (Err f) a b (λ e. cc) (λ e. free cc) in
     absurd (cc same)
@@ -39,7 +43,11 @@ never_both asked room file r f a b free =
 pub whole_law : LawOfWholeFiles
 whole_law asked room file shape L DiskFault suits stands few f = absurd f
 whole_law asked room file shape L Memory suits stands few f = refl
-whole_law asked room file shape L NotAJournal suits stands few f = let s = found_some asked shape room L file suits stands few in absurd (never_both asked room file s.0 NotAJournal s.1 f (λ e. cc))
-whole_law asked room file shape L (WrongShape k a) suits stands few f = let s = found_some asked shape room L file suits stands few in absurd (never_both asked room file s.0 (WrongShape k a) s.1 f (λ e. cc))
-whole_law asked room file shape L (Damaged at) suits stands few f = let s = found_some asked shape room L file suits stands few in absurd (never_both asked room file s.0 (Damaged at) s.1 f (λ e. cc))
-whole_law asked room file shape L (Full held more) suits stands few f = let s = found_some asked shape room L file suits stands few in absurd (never_both asked room file s.0 (Full held more) s.1 f (λ e. cc))
+whole_law asked room file shape L NotAJournal suits stands few f = let s = found_some asked shape room L file suits stands few in
+    absurd (never_both asked room file s.0 NotAJournal s.1 f (λ e. cc))
+whole_law asked room file shape L (WrongShape k a) suits stands few f = let s = found_some asked shape room L file suits stands few in
+    absurd (never_both asked room file s.0 (WrongShape k a) s.1 f (λ e. cc))
+whole_law asked room file shape L (Damaged at) suits stands few f = let s = found_some asked shape room L file suits stands few in
+    absurd (never_both asked room file s.0 (Damaged at) s.1 f (λ e. cc))
+whole_law asked room file shape L (Full held more) suits stands few f = let s = found_some asked shape room L file suits stands few in
+    absurd (never_both asked room file s.0 (Full held more) s.1 f (λ e. cc))

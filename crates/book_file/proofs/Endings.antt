@@ -1,5 +1,6 @@
 -- What a file holds that ends where a walk goes on.
-use Rattle.std.proofs.Common.{◌≡◌, ◌⊎◌, inl, inr, ⊎_elim, ℕ, ◌-◌, ◌<◌, replicate, true, false, List, [], ◌∷◌, ◌++◌, length, get_or, Option, Result, Err, refl, sym, ◌∙◌, ap, subst, arith, length-append}
+use Rattle.std.proofs.Common.{◌≡◌, ◌⊎◌, inl, inr, ⊎_elim, ℕ, ◌-◌, ◌<◌, replicate, true, false, List, [], ◌∷◌, ◌++◌, length, get_or, Option}
+use Rattle.std.proofs.Common.{Result, Err, refl, sym, ◌∙◌, ap, subst, arith, length-append}
 use Rattle.std.proofs.lemmas.List.{append-nil, nil_from_length, length-replicate}
 use Rattle.std.proofs.lemmas.Bool.{cases_Bool, both_ways}
 use Rattle.lg_model.specs.Placing.{Shape}
@@ -27,15 +28,18 @@ cut_lead shape L rest lt e tail all is =
     let fits = last_fits (dims_of shape) L e all in
     omega (arith, lt, ap length is, length-append (body e) tail, body_size (dims_of shape) e fits)
 
-pub cut_body : (shape : Shape) (L : List UploadData) (rest : List ℕ) → length rest < body_len shape.rows (get_or rest 6 0) → HasNoBody shape L rest
+pub cut_body : (shape : Shape) (L : List UploadData) (rest : List ℕ) → length rest < body_len shape.rows (get_or rest 6 0)
+    → HasNoBody shape L rest
 cut_body shape L rest lt e tail all is =
     let fits = last_fits (dims_of shape) L e all in
     let count : get_or rest 6 0 ≡ length e.columns = ap (λ (l : List ℕ). get_or l 6 0) is ∙ count_at e tail in
-    let size : length (body e) ≡ body_len shape.rows (get_or rest 6 0) = body_size (dims_of shape) e fits ∙ ap (λ (n : ℕ). body_len shape.rows n) (sym count) in
+    let size : length (body e) ≡ body_len shape.rows (get_or rest 6 0) =
+    body_size (dims_of shape) e fits ∙ ap (λ (n : ℕ). body_len shape.rows n) (sym count) in
     omega (arith, lt, ap length is, length-append (body e) tail, size)
 
 module _ (asked : Option Shape) (room len gate : ℕ) (rest read : List ℕ) where
-  broken : (b : BookState) → IsGoing asked room gate b → read ≡ front b.shape (records b.entries) ++ 1 ∷ rest → HasNoBody b.shape (records b.entries) rest → Finds asked room read (Err (Damaged gate))
+  broken : (b : BookState) → IsGoing asked room gate b → read ≡ front b.shape (records b.entries) ++ 1 ∷ rest
+      → HasNoBody b.shape (records b.entries) rest → Finds asked room read (Err (Damaged gate))
   broken b going is none = inr (record {
     shape = b.shape;
     before = records b.entries;
@@ -46,10 +50,12 @@ module _ (asked : Option Shape) (room len gate : ℕ) (rest read : List ℕ) whe
     no_body = none;
   })
 
-  pub cut_at_gate : (b : BookState) (fed : ℕ) → Stands asked room len gate (Gate b) rest read → length read ≡ fed → Finds asked room read (Err (Damaged fed))
+  pub cut_at_gate : (b : BookState) (fed : ℕ) → Stands asked room len gate (Gate b) rest read → length read ≡ fed
+      → Finds asked room read (Err (Damaged fed))
   cut_at_gate b fed s size =
       let none : rest ≡ [] = nil_from_length rest (omega (arith, s.lacks refl)) in
-      let is : read ≡ front b.shape (records b.entries) = s.waits.1 ∙ ap (λ (l : List ℕ). front b.shape (records b.entries) ++ l) none ∙ append-nil (front b.shape (records b.entries)) in
+      let is : read ≡ front b.shape (records b.entries) = s.waits.1 ∙ ap (λ (l : List ℕ). front b.shape (records b.entries) ++ l) none
+      ∙ append-nil (front b.shape (records b.entries)) in
       inl (record {
         shape = b.shape;
         before = records b.entries;
@@ -58,7 +64,8 @@ module _ (asked : Option Shape) (room len gate : ℕ) (rest read : List ℕ) whe
         nothing = is;
       })
 
-  pub cut_later : (stage : Stage) → (stage ≡ Head → ⊥) → ((b : BookState) → stage ≡ Gate b → ⊥) → is_ended stage ≡ false → Stands asked room len gate stage rest read → Finds asked room read (Err (Damaged gate))
+  pub cut_later : (stage : Stage) → (stage ≡ Head → ⊥) → ((b : BookState) → stage ≡ Gate b → ⊥) → is_ended stage ≡ false
+      → Stands asked room len gate stage rest read → Finds asked room read (Err (Damaged gate))
   cut_later Head h g e s = absurd (h refl)
   cut_later (Gate b) h g e s = absurd (g b refl)
   cut_later (Lead b) h g e s = broken b s.waits.0 s.waits.1 (cut_lead b.shape (records b.entries) rest (s.lacks refl))
@@ -73,8 +80,10 @@ ended_is (Body b) e = absurd cc
 ended_is (Ended a) e = (a, refl)
 
 pub finds_whole : (w : WalkState) (result : Result Found OpenFault) → ((a : Result Found OpenFault) → w.stage ≡ Ended a → result ≡ a)
-    → ((asked : Option Shape) (room len : ℕ) (read : List ℕ) → Stands asked room len w.gate w.stage w.rest read → length read ≡ w.fed → is_ended w.stage ≡ false → Finds asked room read result)
-    → (w.fed ≡ w.len) ⊎ (is_ended w.stage ≡ true) → (read more : List ℕ) → HasRead w read → length (read ++ more) ≡ w.len → Finds w.asked w.room (read ++ more) result
+    → ((asked : Option Shape) (room len : ℕ) (read : List ℕ) → Stands asked room len w.gate w.stage w.rest read → length read ≡ w.fed
+    → is_ended w.stage ≡ false → Finds asked room read result)
+    → (w.fed ≡ w.len) ⊎ (is_ended w.stage ≡ true) → (read more : List ℕ) → HasRead w read → length (read ++ more) ≡ w.len
+    → Finds w.asked w.room (read ++ more) result
 finds_whole w result ended going all read more h size =
     elim (cases_Bool (is_ended w.stage)) [
       | inl t ↦
@@ -84,15 +93,19 @@ finds_whole w result ended going all read more h size =
       | inr f ↦
           let whole : w.fed ≡ w.len = ⊎_elim (λ e. e) (λ t. absurd (both_ways (is_ended w.stage) f t)) all in
           let none : more ≡ [] = nil_from_length more (omega (arith, size, length-append read more, h.fed, whole)) in
-          subst (λ (l : List ℕ). Finds w.asked w.room l result) (sym (ap (λ (l : List ℕ). read ++ l) none ∙ append-nil read)) (going w.asked w.room w.len read h.stands h.fed f)
+          subst (λ (l : List ℕ). Finds w.asked w.room l result) (sym (ap (λ (l : List ℕ). read ++ l) none ∙ append-nil read))
+          (going w.asked w.room w.len read h.stands h.fed f)
     ]
 
-pub finds_some : (w : WalkState) (result : Result Found OpenFault) → IsWalk w → ((a : Result Found OpenFault) → w.stage ≡ Ended a → result ≡ a)
-    → ((asked : Option Shape) (room len : ℕ) (read : List ℕ) → Stands asked room len w.gate w.stage w.rest read → length read ≡ w.fed → is_ended w.stage ≡ false → Finds asked room read result)
+pub finds_some : (w : WalkState) (result : Result Found OpenFault) → IsWalk w
+    → ((a : Result Found OpenFault) → w.stage ≡ Ended a → result ≡ a)
+    → ((asked : Option Shape) (room len : ℕ) (read : List ℕ) → Stands asked room len w.gate w.stage w.rest read → length read ≡ w.fed
+    → is_ended w.stage ≡ false → Finds asked room read result)
     → (w.fed ≡ w.len) ⊎ (is_ended w.stage ≡ true) → (file : List ℕ) × Finds w.asked w.room file result
 finds_some w result is ended going all =
     let read = is.read.0 in
     let h = is.read.1 in
     let more : List ℕ = replicate (w.len - w.fed) 0 in
-    let size : length (read ++ more) ≡ w.len = omega (arith, length-append read more, length-replicate {A = ℕ} (w.len - w.fed) 0, h.fed, h.inside) in
+    let size : length (read ++ more) ≡ w.len =
+    omega (arith, length-append read more, length-replicate {A = ℕ} (w.len - w.fed) 0, h.fed, h.inside) in
     (read ++ more, finds_whole w result ended going all read more h size)

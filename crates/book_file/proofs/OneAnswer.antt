@@ -1,5 +1,6 @@
 -- A file has one answer.
-use Rattle.std.proofs.Common.{◌≡◌, ◌⊎◌, inl, inr, ⊎_elim, ℕ, ◌+◌, ◌<◌, ◌≤◌, List, [], ◌∷◌, ◌++◌, length, get_or, Option, Some, Result, Ok, Err, refl, sym, ◌∙◌, ap, subst, arith, append_assoc, length-append}
+use Rattle.std.proofs.Common.{◌≡◌, ◌⊎◌, inl, inr, ⊎_elim, ℕ, ◌+◌, ◌<◌, ◌≤◌, List, [], ◌∷◌, ◌++◌, length, get_or, Option, Some, Result, Ok}
+use Rattle.std.proofs.Common.{Err, refl, sym, ◌∙◌, ap, subst, arith, append_assoc, length-append}
 use Rattle.std.specs.List.{flat_map, AllByRecursion, IsDistinct}
 use Rattle.std.proofs.lemmas.List.{get_or_append_left, append-nil, append_cancel_left}
 use Rattle.std.proofs.lemmas.List.Concat.{flat_map-append}
@@ -29,7 +30,9 @@ some_shape a = Some a
 headed : (shape : Shape) (file : List ℕ) → HasHeader shape file → IsBlank file → ⊥
 headed shape file h blank =
     let size = ap length h.bytes ∙ length-append (header shape) h.rest in
-    let one : get_or file 0 0 ≡ 1 = ap (λ (l : List ℕ). get_or l 0 0) h.bytes ∙ get_or_append_left (header shape) h.rest 0 0 (omega (arith, header_len shape)) ∙ header_one shape in
+    let one : get_or file 0 0 ≡ 1 =
+    ap (λ (l : List ℕ). get_or l 0 0) h.bytes ∙ get_or_append_left (header shape) h.rest 0 0 (omega (arith, header_len shape))
+    ∙ header_one shape in
     ⊎_elim (λ le. omega (arith, le, size, header_len shape)) (λ b. b.1 one) blank
 
 one_header : (s t : Shape) (file : List ℕ) → HasHeader s file → HasHeader t file → s ≡ t
@@ -38,7 +41,8 @@ one_header s t file h k = (front_header s t h.rest k.rest h.shape_fits k.shape_f
 -- ---- two walks over one file
 
 pub columns_push : (L : List UploadData) (r : UploadData) → columns_in (L ++ r ∷ []) ≡ columns_in L ++ r.columns
-columns_push L r = flat_map-append (λ (x : UploadData). x.columns) L (r ∷ []) ∙ ap (λ (cs : List Column). columns_in L ++ cs) (append-nil r.columns)
+columns_push L r = flat_map-append (λ (x : UploadData). x.columns) L (r ∷ [])
+    ∙ ap (λ (cs : List Column). columns_in L ++ cs) (append-nil r.columns)
 
 -- the second one goes on with a record after those of the first
 record Further (dims : Dims) (L M : List UploadData) (X : List ℕ) : Type 0 where
@@ -49,7 +53,8 @@ record Further (dims : Dims) (L M : List UploadData) (X : List ℕ) : Type 0 whe
   pub fits : IsRecord dims next
   pub opens : X ≡ 1 ∷ (body next ++ tail)
 
-further_cons : (dims : Dims) (e f : UploadData) (L M : List UploadData) (X : List ℕ) → e ≡ f → Further dims L M X → Further dims (e ∷ L) (f ∷ M) X
+further_cons : (dims : Dims) (e f : UploadData) (L M : List UploadData) (X : List ℕ) → e ≡ f → Further dims L M X
+    → Further dims (e ∷ L) (f ∷ M) X
 further_cons dims e f L M X one further = record {
   next = further.next;
   more = further.more;
@@ -62,7 +67,8 @@ further_cons dims e f L M X one further = record {
 abbrev Compared : Dims → List UploadData → List UploadData → List ℕ → List ℕ → Type 0
 Compared dims L M X Y = ((L ≡ M) × (X ≡ Y)) ⊎ (Further dims L M X ⊎ Further dims M L Y)
 
-compare : (dims : Dims) (L M : List UploadData) (X Y : List ℕ) → AllByRecursion (IsRecord dims) L → AllByRecursion (IsRecord dims) M → flat_map record_bytes L ++ X ≡ flat_map record_bytes M ++ Y → Compared dims L M X Y
+compare : (dims : Dims) (L M : List UploadData) (X Y : List ℕ) → AllByRecursion (IsRecord dims) L → AllByRecursion (IsRecord dims) M
+    → flat_map record_bytes L ++ X ≡ flat_map record_bytes M ++ Y → Compared dims L M X Y
 compare dims [] [] X Y fl fm same = inl (refl, same)
 compare dims [] (f ∷ M) X Y fl fm same = inr (inl (record {
   next = f;
@@ -95,7 +101,8 @@ compare dims (e ∷ L) (f ∷ M) X Y fl fm same =
 
 -- No well-formed body that there is room for stands after an open gate at the front of the bytes.
 abbrev NoGo : Shape → ℕ → List UploadData → List ℕ → Type 0
-NoGo shape room L X = (r : UploadData) (tail : List ℕ) → AreRecords (dims_of shape) (L ++ r ∷ []) → count_of L + length r.columns ≤ room → X ≡ 1 ∷ (body r ++ tail) → ⊥
+NoGo shape room L X = (r : UploadData) (tail : List ℕ) → AreRecords (dims_of shape) (L ++ r ∷ []) → count_of L + length r.columns ≤ room
+    → X ≡ 1 ∷ (body r ++ tail) → ⊥
 
 record Stop (asked : Option Shape) (room : ℕ) (file : List ℕ) (shape : Shape) (L : List UploadData) (X : List ℕ) : Type 0 where
   pub bytes : file ≡ front shape L ++ X
@@ -105,26 +112,45 @@ record Stop (asked : Option Shape) (room : ℕ) (file : List ℕ) (shape : Shape
   pub few : count_of L ≤ room
   pub nogo : NoGo shape room L X
 
-stop_header : (asked : Option Shape) (room : ℕ) (file : List ℕ) (shape : Shape) (L : List UploadData) (X : List ℕ) → Stop asked room file shape L X → HasHeader shape file
-stop_header asked room file shape L X s = record { rest = flat_map record_bytes L ++ X; bytes = s.bytes ∙ append_assoc (header shape) (flat_map record_bytes L) X; shape_fits = s.shape_fits }
+stop_header : (asked : Option Shape) (room : ℕ) (file : List ℕ) (shape : Shape) (L : List UploadData) (X : List ℕ)
+    → Stop asked room file shape L X → HasHeader shape file
+stop_header asked room file shape L X s =
+    record {
+      rest = flat_map record_bytes L ++ X;
+      bytes = s.bytes ∙ append_assoc (header shape) (flat_map record_bytes L) X;
+      shape_fits = s.shape_fits;
+    }
 
-goes_further : (shape : Shape) (room : ℕ) (L M : List UploadData) (X : List ℕ) → AreRecords (dims_of shape) L → AreRecords (dims_of shape) M → count_of M ≤ room → NoGo shape room L X → Further (dims_of shape) L M X → ⊥
+goes_further : (shape : Shape) (room : ℕ) (L M : List UploadData) (X : List ℕ) → AreRecords (dims_of shape) L → AreRecords (dims_of shape) M
+    → count_of M ≤ room → NoGo shape room L X → Further (dims_of shape) L M X → ⊥
 goes_further shape room L M X fl fm few nogo f =
     let n = f.next in
-    let cols : columns_in L ++ (n.columns ++ columns_in f.more) ≡ columns_in M = sym (flat_map-append (λ (x : UploadData). x.columns) L (n ∷ f.more)) ∙ ap columns_in f.same in
-    let grouped : (columns_in L ++ n.columns) ++ columns_in f.more ≡ columns_in M = append_assoc (columns_in L) n.columns (columns_in f.more) ∙ cols in
-    let apart = (apart_split (columns_in L ++ n.columns) (columns_in f.more) (subst (λ (cs : List Column). IsDistinct same_column_key (keys_of cs)) (sym grouped) fm.apart)).first in
+    let cols : columns_in L ++ (n.columns ++ columns_in f.more) ≡ columns_in M =
+    sym (flat_map-append (λ (x : UploadData). x.columns) L (n ∷ f.more)) ∙ ap columns_in f.same in
+    let grouped : (columns_in L ++ n.columns) ++ columns_in f.more ≡ columns_in M =
+    append_assoc (columns_in L) n.columns (columns_in f.more) ∙ cols in
+    let apart = (apart_split (columns_in L ++ n.columns) (columns_in f.more)
+    (subst (λ (cs : List Column). IsDistinct same_column_key (keys_of cs)) (sym grouped) fm.apart)).first in
     let well : AreRecords (dims_of shape) (L ++ n ∷ []) = record {
       each = all_push (IsRecord (dims_of shape)) L n fl.each f.fits;
       apart = subst (λ (cs : List Column). IsDistinct same_column_key (keys_of cs)) (sym (columns_push L n)) apart;
     } in
-    nogo n f.tail well (omega (arith, few, ap length cols, length-append (columns_in L) (n.columns ++ columns_in f.more), length-append n.columns (columns_in f.more))) f.opens
+    nogo n f.tail well (omega (
+      arith,
+      few,
+      ap length cols,
+      length-append (columns_in L) (n.columns ++ columns_in f.more),
+      length-append n.columns (columns_in f.more),
+    )) f.opens
 
-same_stop : (asked : Option Shape) (room : ℕ) (file : List ℕ) (s t : Shape) (L M : List UploadData) (X Y : List ℕ) → Stop asked room file s L X → Stop asked room file t M Y → (s ≡ t) × (L ≡ M) × (X ≡ Y)
+same_stop : (asked : Option Shape) (room : ℕ) (file : List ℕ) (s t : Shape) (L M : List UploadData) (X Y : List ℕ)
+    → Stop asked room file s L X → Stop asked room file t M Y → (s ≡ t) × (L ≡ M) × (X ≡ Y)
 same_stop asked room file s t L M X Y a b0 =
     let shapes = one_header s t file (stop_header asked room file s L X a) (stop_header asked room file t M Y b0) in
     let b : Stop asked room file s M Y = subst (λ (x : Shape). Stop asked room file x M Y) (sym shapes) b0 in
-    let whole : header s ++ (flat_map record_bytes L ++ X) ≡ header s ++ (flat_map record_bytes M ++ Y) = sym (append_assoc (header s) (flat_map record_bytes L) X) ∙ sym a.bytes ∙ b.bytes ∙ append_assoc (header s) (flat_map record_bytes M) Y in
+    let whole : header s ++ (flat_map record_bytes L ++ X) ≡ header s ++ (flat_map record_bytes M ++ Y) =
+    sym (append_assoc (header s) (flat_map record_bytes L) X) ∙ sym a.bytes ∙ b.bytes
+    ∙ append_assoc (header s) (flat_map record_bytes M) Y in
     ⊎_elim
     (λ same. (shapes, same.0, same.1))
     (λ other. ⊎_elim
@@ -143,9 +169,12 @@ Answer = Result Found OpenFault
 -- how a stop is told
 data Told (room : ℕ) (shape : Shape) (L : List UploadData) (X : List ℕ) : Answer → Type 0 where
   ends : (at : ℕ) → at ≡ length (front shape L) → X ≡ [] → Told room shape L X (Err (Damaged at))
-  breaks : (at : ℕ) (tail : List ℕ) → at ≡ length (front shape L) → X ≡ 1 ∷ tail → HasNoBody shape L tail → Told room shape L X (Err (Damaged at))
-  overfills : (held more : ℕ) (n : UploadData) (tail : List ℕ) → X ≡ 1 ∷ (body n ++ tail) → AreRecords (dims_of shape) (L ++ n ∷ []) → held ≡ count_of L → more ≡ length n.columns → room < held + more → Told room shape L X (Err (Full held more))
-  holds : (b : BookState) (end gate : ℕ) (rest : List ℕ) → X ≡ gate ∷ rest → IsClosed gate → b ≡ book_of shape room L → end ≡ length (front shape L) → Told room shape L X (Ok (Book b end))
+  breaks : (at : ℕ) (tail : List ℕ) → at ≡ length (front shape L) → X ≡ 1 ∷ tail → HasNoBody shape L tail
+      → Told room shape L X (Err (Damaged at))
+  overfills : (held more : ℕ) (n : UploadData) (tail : List ℕ) → X ≡ 1 ∷ (body n ++ tail) → AreRecords (dims_of shape) (L ++ n ∷ [])
+      → held ≡ count_of L → more ≡ length n.columns → room < held + more → Told room shape L X (Err (Full held more))
+  holds : (b : BookState) (end gate : ℕ) (rest : List ℕ) → X ≡ gate ∷ rest → IsClosed gate → b ≡ book_of shape room L
+      → end ≡ length (front shape L) → Told room shape L X (Ok (Book b end))
 
 module _ (room : ℕ) (shape : Shape) (L : List UploadData) (X : List ℕ) where
   damaged_same : (a b : ℕ) → a ≡ length (front shape L) → b ≡ length (front shape L) → ◌≡◌ {A = Answer} (Err (Damaged a)) (Err (Damaged b))
@@ -178,10 +207,12 @@ module _ (room : ℕ) (shape : Shape) (L : List UploadData) (X : List ℕ) where
       let held : h ≡ h2 = eh ∙ sym eh2 in
       let more : m ≡ m2 = em ∙ ap (λ (u : UploadData). length u.columns) one.0 ∙ sym em2 in
       λ i. Err (Full (held i) (more i))
-  told_same r s (overfills h m n t x well eh em over) (holds b end gate rest x2 shut is ee) = absurd (opens_once gate (body n ++ t) rest x x2 shut)
+  told_same r s (overfills h m n t x well eh em over) (holds b end gate rest x2 shut is ee) =
+      absurd (opens_once gate (body n ++ t) rest x x2 shut)
   told_same r s (holds b end gate rest x shut is ee) (ends b2 pb xb) = let e : [] ≡ gate ∷ rest = sym xb ∙ x in absurd cc
   told_same r s (holds b end gate rest x shut is ee) (breaks b2 tb pb xb none) = absurd (opens_once gate tb rest xb x shut)
-  told_same r s (holds b end gate rest x shut is ee) (overfills h m n t x2 well eh em over) = absurd (opens_once gate (body n ++ t) rest x2 x shut)
+  told_same r s (holds b end gate rest x shut is ee) (overfills h m n t x2 well eh em over) =
+      absurd (opens_once gate (body n ++ t) rest x2 x shut)
   told_same r s (holds b end gate rest x shut is ee) (holds b2 end2 gate2 rest2 x2 shut2 is2 ee2) =
       let books : b ≡ b2 = is ∙ sym is2 in
       let gates : end ≡ end2 = ee ∙ sym ee2 in
@@ -193,12 +224,16 @@ data Kind (asked : Option Shape) (room : ℕ) (file : List ℕ) : Answer → Typ
   blank : IsBlank file → Kind asked room file (Ok Blank)
   foreign : (IsBlank file → ⊥) → ((shape : Shape) → HasHeader shape file → ⊥) → Kind asked room file (Err NotAJournal)
   other : (k a : Shape) → asked ≡ Some a → (k ≡ a → ⊥) → HasHeader k file → Kind asked room file (Err (WrongShape k a))
-  stops : (r : Answer) (shape : Shape) (L : List UploadData) (X : List ℕ) → Stop asked room file shape L X → Told room shape L X r → Kind asked room file r
+  stops : (r : Answer) (shape : Shape) (L : List UploadData) (X : List ℕ) → Stop asked room file shape L X → Told room shape L X r
+      → Kind asked room file r
 
-reached_stop : (asked : Option Shape) (room : ℕ) (file : List ℕ) (shape : Shape) (L : List UploadData) (X : List ℕ) → Reaches asked room shape L file → file ≡ front shape L ++ X → NoGo shape room L X → Stop asked room file shape L X
-reached_stop asked room file shape L X r is nogo = record { bytes = is; suits = r.suits; shape_fits = r.shape_fits; records_fit = r.records_fit; few = r.few; nogo = nogo }
+reached_stop : (asked : Option Shape) (room : ℕ) (file : List ℕ) (shape : Shape) (L : List UploadData) (X : List ℕ)
+    → Reaches asked room shape L file → file ≡ front shape L ++ X → NoGo shape room L X → Stop asked room file shape L X
+reached_stop asked room file shape L X r is nogo =
+    record { bytes = is; suits = r.suits; shape_fits = r.shape_fits; records_fit = r.records_fit; few = r.few; nogo = nogo }
 
-kind_of : (asked : Option Shape) (room : ℕ) (file : List ℕ) (r : Answer) → Finds asked room file r → (r ≡ Err Memory → ⊥) → Kind asked room file r
+kind_of : (asked : Option Shape) (room : ℕ) (file : List ℕ) (r : Answer) → Finds asked room file r → (r ≡ Err Memory → ⊥)
+    → Kind asked room file r
 kind_of asked room file (Ok Blank) f free = blank f
 kind_of asked room file (Ok (Book b end)) f free = stops (Ok (Book b end)) b.shape (records b.entries) (f.spells.gate ∷ f.spells.rest)
     (record {
@@ -214,16 +249,19 @@ kind_of asked room file (Err DiskFault) f free = absurd f
 kind_of asked room file (Err NotAJournal) f free = foreign f.0 f.1
 kind_of asked room file (Err (WrongShape k a)) f free = other k a f.0 f.1 f.2
 kind_of asked room file (Err (Damaged at)) (inl f) free = stops (Err (Damaged at)) f.shape f.before []
-    (reached_stop asked room file f.shape f.before [] f.reached (f.nothing ∙ sym (append-nil (front f.shape f.before))) (λ r tail all le is. absurd cc))
+    (reached_stop asked room file f.shape f.before [] f.reached (f.nothing ∙ sym (append-nil (front f.shape f.before)))
+    (λ r tail all le is. absurd cc))
     (ends at f.place refl)
 kind_of asked room file (Err (Damaged at)) (inr f) free = stops (Err (Damaged at)) f.shape f.before (1 ∷ f.tail)
-    (reached_stop asked room file f.shape f.before (1 ∷ f.tail) f.reached f.opens (λ r tail all le is. let t : f.tail ≡ body r ++ tail = cc in f.no_body r tail all t))
+    (reached_stop asked room file f.shape f.before (1 ∷ f.tail) f.reached f.opens
+    (λ r tail all le is. let t : f.tail ≡ body r ++ tail = cc in f.no_body r tail all t))
     (breaks at f.tail f.place refl f.no_body)
 kind_of asked room file (Err (Full held more)) f free = stops (Err (Full held more)) f.shape f.before (1 ∷ (body f.next ++ f.tail))
     (reached_stop asked room file f.shape f.before (1 ∷ (body f.next ++ f.tail)) f.reached f.opens
     (λ r tail all le is.
     let t : body f.next ++ f.tail ≡ body r ++ tail = cc in
-    let one = same_body (dims_of f.shape) f.next r f.tail tail (last_fits (dims_of f.shape) f.before f.next f.well_formed) (last_fits (dims_of f.shape) f.before r all) t in
+    let one = same_body (dims_of f.shape) f.next r f.tail tail (last_fits (dims_of f.shape) f.before f.next f.well_formed)
+    (last_fits (dims_of f.shape) f.before r all) t in
     omega (arith, le, f.over, f.held_is, f.more_is, ap (λ (a : UploadData). length a.columns) one.0)))
     (overfills held more f.next f.tail refl f.well_formed f.held_is f.more_is f.over)
 kind_of asked room file (Err Memory) f free = absurd (free refl)
@@ -250,10 +288,12 @@ module _ (asked : Option Shape) (room : ℕ) (file : List ℕ) where
       let both : some_shape a ≡ some_shape a2 = sym e ∙ e2 in
       let ask : a ≡ a2 = cc in
       λ i. Err (WrongShape (ks i) (ask i))
-  same_kind r s (other k a e ne h) (stops q shape L X st told) = absurd (not_suited asked k a shape e ne st.suits (one_header k shape file h (stop_header asked room file shape L X st)))
+  same_kind r s (other k a e ne h) (stops q shape L X st told) =
+      absurd (not_suited asked k a shape e ne st.suits (one_header k shape file h (stop_header asked room file shape L X st)))
   same_kind r s (stops q shape L X st told) (blank b) = absurd (headed shape file (stop_header asked room file shape L X st) b)
   same_kind r s (stops q shape L X st told) (foreign n h) = absurd (h shape (stop_header asked room file shape L X st))
-  same_kind r s (stops q shape L X st told) (other k a e ne h) = absurd (not_suited asked k a shape e ne st.suits (one_header k shape file h (stop_header asked room file shape L X st)))
+  same_kind r s (stops q shape L X st told) (other k a e ne h) =
+      absurd (not_suited asked k a shape e ne st.suits (one_header k shape file h (stop_header asked room file shape L X st)))
   same_kind r s (stops q shape L X st told) (stops q2 shape2 M Y st2 told2) =
       let same = same_stop asked room file shape shape2 L M X Y st st2 in
       let moved : Told room shape M Y q2 = subst (λ (x : Shape). Told room x M Y q2) (sym same.0) told2 in
@@ -261,4 +301,5 @@ module _ (asked : Option Shape) (room : ℕ) (file : List ℕ) where
       told_same room shape L X q q2 told (subst (λ (l : List ℕ). Told room shape L l q2) (sym same.2) here)
 
 pub one_answer : LawOfAnswers
-one_answer asked room file r s fr fs nr ns = same_kind asked room file r s (kind_of asked room file r fr nr) (kind_of asked room file s fs ns)
+one_answer asked room file r s fr fs nr ns =
+    same_kind asked room file r s (kind_of asked room file r fr nr) (kind_of asked room file s fs ns)

@@ -1,5 +1,6 @@
 -- Worked files.
-use Rattle.std.proofs.Common.{◌≡◌, inl, inr, ⊎_elim, ℕ, zero, suc, List, [], ◌∷◌, ◌++◌, length, get_or, take, refl, sym, ◌∙◌, ap, arith, length-append}
+use Rattle.std.proofs.Common.{◌≡◌, inl, inr, ⊎_elim, ℕ, zero, suc, List, [], ◌∷◌, ◌++◌, length, get_or, take, refl, sym, ◌∙◌, ap, arith}
+use Rattle.std.proofs.Common.{length-append}
 use Rattle.std.specs.List.{IsDistinct}
 use Rattle.lg_model.specs.Placing.{Shape}
 use Rattle.lg_model.specs.Columns.{dims_of}
@@ -20,7 +21,10 @@ buckets_fit (suc zero) = record { bytes = omega arith; delay = omega arith }
 buckets_fit (suc (suc i)) = record { bytes = omega arith; delay = omega arith }
 
 shape_fits : FitsShape worked_shape
-shape_fits = record { dims = record { some_rows = omega arith; few_rows = omega arith; some_width = omega arith; few_width = omega arith }; hash = tt }
+shape_fits = record {
+  dims = record { some_rows = omega arith; few_rows = omega arith; some_width = omega arith; few_width = omega arith };
+  hash = tt;
+}
 
 record_fits : IsRecord (dims_of worked_shape) worked_record
 record_fits = record {
@@ -66,25 +70,48 @@ zero_first n e = omega (arith, e)
 
 foreign : (shape : Shape) → HasHeader shape (zeros_of 19) → ⊥
 foreign shape h =
-    let one : get_or (zeros_of 19) 0 0 ≡ 1 = ap (λ (l : List ℕ). get_or l 0 0) h.bytes ∙ get_or_append_left (header shape) h.rest 0 0 (omega (arith, header_len shape)) ∙ header_one shape in
+    let one : get_or (zeros_of 19) 0 0 ≡ 1 =
+    ap (λ (l : List ℕ). get_or l 0 0) h.bytes ∙ get_or_append_left (header shape) h.rest 0 0 (omega (arith, header_len shape))
+    ∙ header_one shape in
     zero_first 18 one
 
 pub worked_files : WorkedFiles
 worked_files = record {
   spelled = spelled 0;
   len = refl;
-  stands = inr (record { gate = 0; rest = []; bytes = sym (spelled 0); closed = λ e. omega (arith, e); shape_fits = shape_fits; records_fit = one_fits });
+  stands = inr (record {
+    gate = 0;
+    rest = [];
+    bytes = sym (spelled 0);
+    closed = λ e. omega (arith, e);
+    shape_fits = shape_fits;
+    records_fit = one_fits;
+  });
   header_alone = λ room. inl (record {
     shape = worked_shape;
     before = [];
-    reached = record { rest = []; bytes = sym head_spelled ∙ sym (append-nil (front worked_shape [])); suits = tt; shape_fits = shape_fits; records_fit = none_fit; few = omega arith };
+    reached = record {
+      rest = [];
+      bytes = sym head_spelled ∙ sym (append-nil (front worked_shape []));
+      suits = tt;
+      shape_fits = shape_fits;
+      records_fit = none_fit;
+      few = omega arith;
+    };
     place = ap length (sym head_spelled);
     nothing = sym head_spelled;
   });
   last_open = λ room. inr (record {
     shape = worked_shape;
     before = worked_record ∷ [];
-    reached = record { rest = 1 ∷ []; bytes = sym (spelled 1); suits = tt; shape_fits = shape_fits; records_fit = one_fits; few = omega arith };
+    reached = record {
+      rest = 1 ∷ [];
+      bytes = sym (spelled 1);
+      suits = tt;
+      shape_fits = shape_fits;
+      records_fit = one_fits;
+      few = omega arith;
+    };
     place = size;
     tail = [];
     opens = sym (spelled 1);

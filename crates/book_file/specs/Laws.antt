@@ -12,7 +12,8 @@ use Rattle.book_file.specs.Found.{Suits, count_of, Finds}
 
 -- Bytes that aren't blank stand for at most one shape and one list of records.
 abbrev pub LawOfFiles : Type 0
-LawOfFiles = (file : List ℕ) (s t : Shape) (L M : List UploadData) → (IsBlank file → ⊥) → StandsFor s L file → StandsFor t M file → (s ≡ t) × (L ≡ M)
+LawOfFiles = (file : List ℕ) (s t : Shape) (L M : List UploadData) → (IsBlank file → ⊥) → StandsFor s L file → StandsFor t M file
+    → (s ≡ t) × (L ≡ M)
 
 -- What stands in a blank file is the empty list alone.
 abbrev pub LawOfBlankFiles : Type 0
@@ -30,4 +31,5 @@ LawOfWholeFiles = (asked : Option Shape) (room : ℕ) (file : List ℕ) (shape :
 
 -- The closing gate stands at most 17 bytes and 64 for each column from the start.
 abbrev pub LawOfLengths : Type 0
-LawOfLengths = (shape : Shape) (L : List UploadData) → FitsShape shape → AreRecords (dims_of shape) L → length (front shape L) ≤ 17 + 64 * count_of L
+LawOfLengths = (shape : Shape) (L : List UploadData) → FitsShape shape → AreRecords (dims_of shape) L
+    → length (front shape L) ≤ 17 + 64 * count_of L

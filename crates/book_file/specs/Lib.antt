@@ -1,5 +1,6 @@
 pub mod File
 pub mod Found
+pub mod Between
 pub mod Walk
 pub mod Reading
 pub mod Laws

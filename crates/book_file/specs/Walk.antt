@@ -53,7 +53,8 @@ abbrev pub Waits : Option Shape → (room len gate : ℕ) → Stage → (rest re
 Waits asked room len gate Head rest read = read ≡ rest
 Waits asked room len gate (Gate b) rest read = IsGoing asked room gate b × (read ≡ front b.shape (records b.entries) ++ rest)
 Waits asked room len gate (Lead b) rest read = IsGoing asked room gate b × (read ≡ front b.shape (records b.entries) ++ 1 ∷ rest)
-Waits asked room len gate (Body b) rest read = IsGoing asked room gate b × (read ≡ front b.shape (records b.entries) ++ 1 ∷ rest) × HasCount rest
+Waits asked room len gate (Body b) rest read =
+    IsGoing asked room gate b × (read ≡ front b.shape (records b.entries) ++ 1 ∷ rest) × HasCount rest
 Waits asked room len gate (Ended answer) rest read = Decides asked room len read answer
 
 -- How many bytes the next step needs, the kept ones included.

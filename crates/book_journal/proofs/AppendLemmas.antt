@@ -1,5 +1,6 @@
 -- What a crash leaves of bytes that are written behind a closed gate.
-use Rattle.std.proofs.Common.{◌≡◌, ℕ, ◌+◌, ◌<◌, ◌≤◌, List, [], ◌∷◌, ◌++◌, length, take, drop, refl, sym, ◌∙◌, ap, subst, arith, append_assoc, length-append, length-take, length-drop}
+use Rattle.std.proofs.Common.{◌≡◌, ℕ, ◌+◌, ◌<◌, ◌≤◌, List, [], ◌∷◌, ◌++◌, length, take, drop, refl, sym, ◌∙◌, ap, subst, arith}
+use Rattle.std.proofs.Common.{append_assoc, length-append, length-take, length-drop}
 use Rattle.std.proofs.lemmas.List.{take_at, drop_at, take-take, take-append-le}
 use Rattle.lg_disk.specs.Disk.{Holds, Torn}
 
@@ -22,7 +23,8 @@ module _ (file : List ℕ) (gate : ℕ) (bytes : List ℕ) (inside : gate < leng
   split = append_assoc (take (gate + 1) file) bytes rest
 
   take_staged : take gate staged ≡ take gate file
-  take_staged = ap (λ (l : List ℕ). take gate l) split ∙ take-append-le gate (take (gate + 1) file) (bytes ++ rest) (omega (arith, front_size))
+  take_staged = ap (λ (l : List ℕ). take gate l) split ∙ take-append-le gate (take (gate + 1) file) (bytes ++ rest)
+      (omega (arith, front_size))
       ∙ take-take gate (gate + 1) file (omega arith)
 
   drop_staged : drop (gate + 1) staged ≡ bytes ++ rest

@@ -1,5 +1,6 @@
 -- What the files stand for that an append may leave.
-use Rattle.std.proofs.Common.{◌≡◌, ◌⊎◌, inl, inr, ⊎_elim, ℕ, ◌+◌, ◌<◌, List, [], ◌∷◌, ◌++◌, length, take, drop, sym, ◌∙◌, ap, arith, append_assoc, length-append, take-append-drop}
+use Rattle.std.proofs.Common.{◌≡◌, ◌⊎◌, inl, inr, ⊎_elim, ℕ, ◌+◌, ◌<◌, List, [], ◌∷◌, ◌++◌, length, take, drop, sym, ◌∙◌, ap, arith}
+use Rattle.std.proofs.Common.{append_assoc, length-append, take-append-drop}
 use Rattle.std.proofs.lemmas.List.{take_at}
 use Rattle.std.proofs.lemmas.Bool.{cases_eq}
 use Rattle.lg_model.specs.Columns.{dims_of}
@@ -9,7 +10,8 @@ use Rattle.book_file.specs.File.{body, front, AreRecords, Spells, StandsFor}
 use Rattle.book_file.proofs.Stepping.{front_push}
 use Rattle.book_journal.specs.Crashes.{Appending}
 
-module _ (shape : Shape) (rs : List UploadData) (r : UploadData) (end : ℕ) (place : end ≡ length (front shape rs)) (well : AreRecords (dims_of shape)
+module _ (shape : Shape) (rs : List UploadData) (r : UploadData) (end : ℕ) (place : end ≡ length (front shape rs))
+    (well : AreRecords (dims_of shape)
     (rs ++ r ∷ [])) where
   abbrev bytes : List ℕ
   bytes = body r ++ 0 ∷ []
@@ -24,14 +26,16 @@ module _ (shape : Shape) (rs : List UploadData) (r : UploadData) (end : ℕ) (pl
     with_gate : take (end + 1) file ≡ front shape rs ++ spells.gate ∷ []
     with_gate =
         ap (λ (l : List ℕ). take (end + 1) l) (spells.bytes ∙ sym (append_assoc (front shape rs) (spells.gate ∷ []) spells.rest))
-        ∙ take_at (front shape rs ++ spells.gate ∷ []) spells.rest (end + 1) (omega (arith, place, length-append (front shape rs) (spells.gate ∷ [])))
+        ∙ take_at (front shape rs ++ spells.gate ∷ []) spells.rest (end + 1)
+        (omega (arith, place, length-append (front shape rs) (spells.gate ∷ [])))
 
     -- up to the gate nothing has changed
     unchanged : (c : List ℕ) → take (end + 1) c ≡ take (end + 1) file → Spells shape rs c
     unchanged c same = record {
       gate = spells.gate;
       rest = drop (end + 1) c;
-      bytes = sym (take-append-drop (end + 1) c) ∙ ap (λ (l : List ℕ). l ++ drop (end + 1) c) (same ∙ with_gate) ∙ append_assoc (front shape rs)
+      bytes = sym (take-append-drop (end + 1) c) ∙ ap (λ (l : List ℕ). l ++ drop (end + 1) c) (same ∙ with_gate)
+          ∙ append_assoc (front shape rs)
           (spells.gate ∷ []) (drop (end + 1) c);
       closed = spells.closed;
       shape_fits = spells.shape_fits;
@@ -77,5 +81,6 @@ module _ (shape : Shape) (rs : List UploadData) (r : UploadData) (end : ℕ) (pl
 
     pub before_or_after : (c : List ℕ) → Appending file end bytes c → StandsFor shape rs c ⊎ StandsFor shape (rs ++ r ∷ []) c
     before_or_after c (inl same) = inl (inr (unchanged c same.0))
-    before_or_after c (inr late) = ⊎_elim (λ one. inr (inr (with_it late.0 c late.1 one))) (λ shut. inl (inr (without_it late.0 c late.1 shut)))
+    before_or_after c (inr late) =
+        ⊎_elim (λ one. inr (inr (with_it late.0 c late.1 one))) (λ shut. inl (inr (without_it late.0 c late.1 shut)))
         (cases_eq late.0 1)

@@ -1,5 +1,6 @@
 -- What was read of a file, and what is answered of it.
-use Rattle.std.proofs.Common.{◌≡◌, ◌⊎◌, inl, inr, ℕ, ◌≤◌, List, [], ◌++◌, length, take, Option, Some, Result, Ok, Err, refl, sym, ◌∙◌, ap, subst, arith, length-append}
+use Rattle.std.proofs.Common.{◌≡◌, ◌⊎◌, inl, inr, ℕ, ◌≤◌, List, [], ◌++◌, length, take, Option, Some, Result, Ok, Err, refl, sym, ◌∙◌, ap}
+use Rattle.std.proofs.Common.{subst, arith, length-append}
 use Rattle.lg_model.specs.Placing.{Shape}
 use Rattle.column_book.specs.declared.book.TheConstants.{ROOM}
 use Rattle.column_book.specs.Entries.{BookState}
@@ -27,7 +28,8 @@ outside asked room honest seen f (inr e) told = record {
 }
 
 -- the disk is as it was before a call that only read
-pub is_fed_from : (h0 h1 : Type 0) (seen0 seen1 : List ℕ) (a b : WalkState) → (h0 → h1) → (h0 → seen1 ≡ seen0) → IsFed h1 seen1 a b → IsFed h0 seen0 a b
+pub is_fed_from : (h0 h1 : Type 0) (seen0 seen1 : List ℕ) (a b : WalkState) → (h0 → h1) → (h0 → seen1 ≡ seen0) → IsFed h1 seen1 a b
+    → IsFed h0 seen0 a b
 is_fed_from h0 h1 seen0 seen1 a b still same p = record {
   bytes = p.bytes;
   held = λ h. p.held (still h) ∙ ap (λ (l : List ℕ). take (length p.bytes) l) (same h);
@@ -53,12 +55,17 @@ finished asked room len honest seen a b r start p long size asks has finds =
           (subst (λ (x : Option Shape). Finds x b.room file r) (f.asked ∙ asks) (finds p.bytes (rest_of n len seen) read total));
     }
 
-pub looked_book : (asked : Option Shape) (honest : Type 0) (seen : List ℕ) (b : BookState) (end : ℕ) (r : Result Found OpenFault) → r ≡ Ok (Book b end)
+pub looked_book : (asked : Option Shape) (honest : Type 0) (seen : List ℕ) (b : BookState) (end : ℕ) (r : Result Found OpenFault)
+    → r ≡ Ok (Book b end)
     → ((r ≡ Err DiskFault → ⊥) → Reads honest seen (λ (file : List ℕ). Finds asked ROOM file r)) → Reads honest seen (λ
     (file : List ℕ). HasFound asked file (Ok (Some b)))
 looked_book asked honest seen b end r is finds =
     let x = finds (λ e. cc) in
-    record { file = x.file; held = x.held; told = holds x.file (subst (λ (s : Result Found OpenFault). Finds asked ROOM x.file s) is x.told) }
+    record {
+      file = x.file;
+      held = x.held;
+      told = holds x.file (subst (λ (s : Result Found OpenFault). Finds asked ROOM x.file s) is x.told);
+    }
   where
     holds : (file : List ℕ) → Holds asked ROOM b end file → HoldsBook asked b file
     holds file h = record { stands = inr h.spells; written = not_blank file b.shape _ h.spells; few = h.few; is = h.book; suits = h.suits }

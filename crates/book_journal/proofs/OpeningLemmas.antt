@@ -22,10 +22,12 @@ use Rattle.book_journal.specs.Runs.{IsPlaced}
 use Rattle.book_journal.proofs.BlankLemmas.{no_records}
 use Rattle.book_journal.proofs.CrashLemmas.{after}
 
-module _ {D : Type 0} (honest : D → Type 0) (seen : D → List ℕ) (images : D → List ℕ → Type 0) (moment : D → ℕ) (since : D → ℕ → List ℕ → Type 0)
+module _ {D : Type 0} (honest : D → Type 0) (seen : D → List ℕ) (images : D → List ℕ → Type 0) (moment : D → ℕ)
+    (since : D → ℕ → List ℕ → Type 0)
     (shape : Shape) where
   -- opening only read
-  pub read_leaves : (old new : D) → honest old → OnlyReads honest seen images moment since old new → OpenLeaves honest seen images moment since shape old new
+  pub read_leaves : (old new : D) → honest old → OnlyReads honest seen images moment since old new
+      → OpenLeaves honest seen images moment since shape old new
   read_leaves old new told reads =
       let leaves = reads.leaves told in
       record {
@@ -38,7 +40,8 @@ module _ {D : Type 0} (honest : D → Type 0) (seen : D → List ℕ) (images : 
       }
 
   -- a blank file that is left so
-  pub blank_stays : (only_now : (d : D) (c : List ℕ) → honest d → since d (moment d) c → images d c) (d : D) → IsSynced honest seen images d → IsBlank
+  pub blank_stays : (only_now : (d : D) (c : List ℕ) → honest d → since d (moment d) c → images d c) (d : D)
+      → IsSynced honest seen images d → IsBlank
       (seen d) → Leaves moment since (StandsFor shape []) d d
   blank_stays only_now d synced blank = record {
     later = omega arith;
@@ -46,29 +49,34 @@ module _ {D : Type 0} (honest : D → Type 0) (seen : D → List ℕ) (images : 
     before = λ t c le k. inl k;
   }
 
-  module _ (reads_image : (d : D) → honest d → images d (seen d)) (counts_now : (d : D) (t : ℕ) (c : List ℕ) → honest d → t ≤ moment d → images d c
+  module _ (reads_image : (d : D) → honest d → images d (seen d))
+      (counts_now : (d : D) (t : ℕ) (c : List ℕ) → honest d → t ≤ moment d → images d c
       → since d t c) where
     -- a blank file was read, and then it was made the empty journal, or nearly
-    pub begun_leaves : (old mid new : D) → honest old → OnlyReads honest seen images moment since old mid → (honest mid → honest new) → IsBlank
+    pub begun_leaves : (old mid new : D) → honest old → OnlyReads honest seen images moment since old mid
+        → (honest mid → honest new) → IsBlank
         (seen old) → Leaves moment since (StandsFor shape []) mid new
         → OpenLeaves honest seen images moment since shape old new
     begun_leaves old mid new told reads still blank made =
         let first = reads.leaves told in
         let told_new = still (reads.still told) in
-        let all = after moment since (images old) (StandsFor shape []) (λ (c : List ℕ). images old c ⊎ StandsFor shape [] c) old mid new first made
+        let all = after moment since (images old) (StandsFor shape []) (λ (c : List ℕ). images old c ⊎ StandsFor shape [] c)
+        old mid new first made
         (λ c a. inl a) (λ c b. inr b) in
         record {
           still = told_new;
           later = all.later;
           each = λ c k. ⊎_elim (λ a. inl a) (λ b. inr ([], inl (blank, refl), b)) (all.each c k);
           reads = λ full. absurd (full blank);
-          stands_on = λ rs stands. for_list rs stands (seen new) (made.each (seen new) (counts_now new (moment mid) (seen new) told_new made.later
+          stands_on = λ rs stands. for_list rs stands (seen new)
+              (made.each (seen new) (counts_now new (moment mid) (seen new) told_new made.later
               (reads_image new told_new)));
           settled = λ rs stands were c k. ⊎_elim (λ a. were c a) (λ b. for_list rs stands c b) (all.each c k);
         }
       where
         for_list : (rs : List UploadData) → StandsFor shape rs (seen old) → (c : List ℕ) → StandsFor shape [] c → StandsFor shape rs c
-        for_list rs stands c empty = subst (λ (l : List UploadData). StandsFor shape l c) (sym (blank_law (seen old) shape rs blank stands)) empty
+        for_list rs stands c empty =
+            subst (λ (l : List UploadData). StandsFor shape l c) (sym (blank_law (seen old) shape rs blank stands)) empty
 
 -- ---- what was read
 
@@ -104,7 +112,8 @@ refused_for shape room honest seen (Full held more) r = let x = r (λ e. cc) in 
 pub only_outside : (shape : Shape) (room : ℕ) (honest : Type 0) (seen : List ℕ) (f : OpenFault) → Reads honest seen (λ
     (file : List ℕ). IsRefused shape room file f) → honest
     → (rs : List UploadData) → StandsFor shape rs seen → count_of rs ≤ room → IsOutside f
-only_outside shape room honest seen f r told rs stands few = pick f (subst (λ (file : List ℕ). IsRefused shape room file f) (r.held told) r.told)
+only_outside shape room honest seen f r told rs stands few =
+    pick f (subst (λ (file : List ℕ). IsRefused shape room file f) (r.held told) r.told)
   where
     never : (g : OpenFault) → Finds (Some shape) room seen (Err g) → g ≡ Memory
     never g finds = whole_law (Some shape) room seen shape rs g refl stands few finds
@@ -125,7 +134,8 @@ blank_found shape room honest seen r is finds told =
     subst IsBlank (x.held told) (subst (λ (s : Result Found OpenFault). Finds (Some shape) room x.file s) is x.told)
 
 -- a book that was found
-book_is : (shape other : Shape) (room : ℕ) (b : BookState) → other ≡ shape → b ≡ book_of other room (records b.entries) → b ≡ book_of shape room
+book_is : (shape other : Shape) (room : ℕ) (b : BookState) → other ≡ shape → b ≡ book_of other room (records b.entries)
+    → b ≡ book_of shape room
     (records b.entries)
 book_is shape other room b same is = is ∙ ap (λ (s : Shape). book_of s room (records b.entries)) same
 

@@ -1,43 +1,27 @@
 -- Pieces of a file, one after the other.
-use Rattle.std.proofs.Common.{◌≡◌, ℕ, zero, suc, ◌+◌, ◌-◌, List, [], ◌∷◌, ◌++◌, length, take, drop, replicate, refl, sym, ◌∙◌, ap, subst, arith, append_assoc, length-append, length-take, length-drop, take-append-drop}
-use Rattle.std.proofs.lemmas.List.{take_all, take-append-le, nil_from_length, append-nil, length-replicate}
-use Rattle.book_file.specs.Walk.{WalkState, Fed, HasRead, is_ended}
+use Rattle.std.proofs.Common.{◌≡◌, ℕ, zero, suc, ◌+◌, ◌-◌, List, [], ◌∷◌, ◌++◌, length, take, drop, replicate, refl, sym, ◌∙◌, ap}
+use Rattle.std.proofs.Common.{arith, length-append, length-take, length-drop, take-append-drop}
+use Rattle.std.proofs.lemmas.List.{take_all, take-append-le, nil_from_length, length-replicate}
+use Rattle.book_file.specs.Walk.{WalkState, Fed}
+use Rattle.book_file.proofs.Feeding.{fed_none, fed_then}
 use Rattle.book_journal.specs.Looking.{IsFed}
 
 take_join : (a n : ℕ) (xs : List ℕ) → take a xs ++ take n (drop a xs) ≡ take (a + n) xs
 take_join zero n xs = ap (λ (k : ℕ). take k xs) (omega arith)
-take_join (suc a) n [] = nil_from_length (take n []) (omega (arith, length-take {A = ℕ} n [])) ∙ sym (nil_from_length (take (suc a + n) []) (omega
+take_join (suc a) n [] = nil_from_length (take n []) (omega (arith, length-take {A = ℕ} n []))
+    ∙ sym (nil_from_length (take (suc a + n) []) (omega
     (arith, length-take {A = ℕ} (suc a + n) [])))
 take_join (suc a) n (x ∷ xs) =
     let e : suc (a + n) ≡ suc a + n = omega arith in
     ap (λ (l : List ℕ). x ∷ l) (take_join a n xs) ∙ ap (λ (k : ℕ). take k (x ∷ xs)) e
-
-fed_none : (w : WalkState) → Fed w w []
-fed_none w = record {
-  asked = refl;
-  room = refl;
-  len = refl;
-  fed = omega arith;
-  read = λ read h. subst (λ (l : List ℕ). HasRead w l) (sym (append-nil read)) h;
-  ended = λ e. refl;
-}
-
-fed_then : (a b c : WalkState) (x y : List ℕ) → Fed a b x → Fed b c y → Fed a c (x ++ y)
-fed_then a b c x y p q = record {
-  asked = q.asked ∙ p.asked;
-  room = q.room ∙ p.room;
-  len = q.len ∙ p.len;
-  fed = omega (arith, p.fed, q.fed, length-append x y);
-  read = λ read h. subst (λ (l : List ℕ). HasRead c l) (append_assoc read x y) (q.read (read ++ x) (p.read read h));
-  ended = λ e. q.ended (ap is_ended (p.ended e) ∙ e) ∙ p.ended e;
-}
 
 -- nothing is fed yet
 pub is_fed_none : (honest : Type 0) (seen : List ℕ) (w : WalkState) → IsFed honest seen w w
 is_fed_none honest seen w = record { bytes = []; held = λ h. refl; fed = fed_none w }
 
 -- one piece more
-pub is_fed_then : (honest : Type 0) (seen : List ℕ) (a b c : WalkState) (at : ℕ) (y : List ℕ) → a.fed ≡ 0 → b.fed ≡ at → IsFed honest seen a b
+pub is_fed_then : (honest : Type 0) (seen : List ℕ) (a b c : WalkState) (at : ℕ) (y : List ℕ) → a.fed ≡ 0 → b.fed ≡ at
+    → IsFed honest seen a b
     → Fed b c y → (honest → y ≡ take (length y) (drop at seen)) → IsFed honest seen a c
 is_fed_then honest seen a b c at y start place p q more = record {
   bytes = p.bytes ++ y;
@@ -65,12 +49,14 @@ rest_len fed len seen = omega (
   length-replicate {A = ℕ} (len - fed) 0,
 )
 
-pub whole_file : (bytes seen : List ℕ) (len : ℕ) → len ≡ length seen → bytes ≡ take (length bytes) seen → bytes ++ rest_of (length bytes) len seen ≡ seen
+pub whole_file : (bytes seen : List ℕ) (len : ℕ) → len ≡ length seen → bytes ≡ take (length bytes) seen
+    → bytes ++ rest_of (length bytes) len seen ≡ seen
 unfolding rest_of
 whole_file bytes seen len long front =
     let n = length bytes in
     let size : len - n ≡ length (drop n seen) = omega (arith, long, length-drop n seen) in
-    ap (λ (l : List ℕ). bytes ++ l) (take-append-le (len - n) (drop n seen) (replicate (len - n) 0) (omega (arith, size)) ∙ take_all (len - n)
+    ap (λ (l : List ℕ). bytes ++ l) (take-append-le (len - n) (drop n seen) (replicate (len - n) 0) (omega (arith, size))
+    ∙ take_all (len - n)
     (drop n seen) (omega (arith, size)))
     ∙ ap (λ (l : List ℕ). l ++ drop n seen) front
     ∙ take-append-drop n seen

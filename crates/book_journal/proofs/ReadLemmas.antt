@@ -4,7 +4,8 @@ use Rattle.lg_disk.specs.Disk.{Course, Same}
 use Rattle.book_journal.specs.Crashes.{IsSynced, OnlyReads}
 use Rattle.book_journal.proofs.CrashLemmas.{after, called, image_has}
 
-module _ {D : Type 0} (honest : D → Type 0) (seen : D → List ℕ) (images : D → List ℕ → Type 0) (moment : D → ℕ) (since : D → ℕ → List ℕ → Type 0) where
+module _ {D : Type 0} (honest : D → Type 0) (seen : D → List ℕ) (images : D → List ℕ → Type 0) (moment : D → ℕ)
+    (since : D → ℕ → List ℕ → Type 0) where
   module _ (only_now : (d : D) (c : List ℕ) → honest d → since d (moment d) c → images d c) where
     pub no_read : (d : D) → OnlyReads honest seen images moment since d d
     no_read d = record {
@@ -20,11 +21,13 @@ module _ {D : Type 0} (honest : D → Type 0) (seen : D → List ℕ) (images : 
     still = course.still;
     was = course.was;
     same = same;
-    leaves = λ h. called honest seen images moment since Same (images old) old new h course (λ b c image is. subst (images old) (sym is) image);
+    leaves = λ h. called honest seen images moment since Same (images old) old new h course
+        (λ b c image is. subst (images old) (sym is) image);
   }
 
   module _ (counts_now : (d : D) (t : ℕ) (c : List ℕ) → honest d → t ≤ moment d → images d c → since d t c) where
-    pub then_read : (old mid new : D) → OnlyReads honest seen images moment since old mid → OnlyReads honest seen images moment since mid new
+    pub then_read : (old mid new : D) → OnlyReads honest seen images moment since old mid
+        → OnlyReads honest seen images moment since mid new
         → OnlyReads honest seen images moment since old new
     then_read old mid new p q = record {
       still = λ h. q.still (p.still h);
@@ -34,9 +37,11 @@ module _ {D : Type 0} (honest : D → Type 0) (seen : D → List ℕ) (images : 
           (λ c i. image_has honest seen images moment since counts_now (images old) old mid (p.still h) (p.leaves h) c i);
     }
 
-    pub synced_still : (old new : D) → OnlyReads honest seen images moment since old new → IsSynced honest seen images old → IsSynced honest seen images new
+    pub synced_still : (old new : D) → OnlyReads honest seen images moment since old new → IsSynced honest seen images old
+        → IsSynced honest seen images new
     synced_still old new p s = record {
       told = p.still s.told;
-      only = λ c i. s.only c (image_has honest seen images moment since counts_now (images old) old new (p.still s.told) (p.leaves s.told) c i) ∙ sym
+      only = λ c i. s.only c (image_has honest seen images moment since counts_now (images old) old new (p.still s.told)
+          (p.leaves s.told) c i) ∙ sym
           (p.same s.told);
     }

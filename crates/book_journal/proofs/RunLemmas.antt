@@ -1,5 +1,6 @@
 -- What a journal's calls leave, and that they keep every run.
-use Rattle.std.proofs.Common.{◌≡◌, ◌⊎◌, inl, inr, ⊎_elim, ℕ, ◌+◌, ◌<◌, ◌≤◌, List, [], ◌∷◌, ◌++◌, length, take, drop, Option, None, Result, Ok, Err, refl, sym, ◌∙◌, ap, subst, arith, append_assoc, length-append}
+use Rattle.std.proofs.Common.{◌≡◌, ◌⊎◌, inl, inr, ⊎_elim, ℕ, ◌+◌, ◌<◌, ◌≤◌, List, [], ◌∷◌, ◌++◌, length, take, drop, Option, None, Result}
+use Rattle.std.proofs.Common.{Ok, Err, refl, sym, ◌∙◌, ap, subst, arith, append_assoc, length-append}
 use Rattle.std.proofs.lemmas.List.{append-nil, map-append}
 use mathlib.Core.List.{IsPrefix}
 use Rattle.lg_model.specs.Placing.{Shape}
@@ -8,6 +9,7 @@ use Rattle.sketchlet_wire.specs.Uploads.{UploadData}
 use Rattle.column_book.specs.declared.entry.Entry.{Entry}
 use Rattle.column_book.specs.Entries.{records}
 use Rattle.column_book.specs.Applying.{stored_entry}
+use Rattle.book_file.specs.Between.{IsBetween}
 use Rattle.book_file.specs.File.{body, front, AreRecords, Spells, StandsFor}
 use Rattle.book_file.specs.Found.{count_of}
 use Rattle.book_file.proofs.Stepping.{front_push}
@@ -17,7 +19,7 @@ use Rattle.book_journal.specs.declared.applied.ApplyFault.{ApplyFault}
 use Rattle.book_journal.specs.declared.applied.ApplyFault.TheVariants.{DiskFault}
 use Rattle.book_journal.specs.Applying.{Answers, Applies, HasNew, IsBefore, IsAfter, IsDuring, IsThen, with_entry, broken}
 use Rattle.book_journal.specs.Crashes.{IsSynced, Leaves, Appending}
-use Rattle.book_journal.specs.Runs.{JournalState, Start, IsBetween, IsRun, IsSettled, IsSound, start_of, with_fault}
+use Rattle.book_journal.specs.Runs.{JournalState, Start, IsRun, IsSettled, IsSound, start_of, with_fault}
 use Rattle.book_journal.proofs.CrashLemmas.{widen}
 use Rattle.book_journal.proofs.FileLemmas.{inside, before_or_after, with_it}
 use Rattle.book_journal.proofs.StoredLemmas.{records_push}
@@ -30,15 +32,17 @@ prefix_push {X = X} a b x p = (p.0 ++ x ∷ [], sym (append_assoc a p.0 (x ∷ [
 records_prefix : (a b : List Entry) → IsPrefix a b → IsPrefix (records a) (records b)
 records_prefix a b p = (records p.0, sym (map-append (λ (e : Entry). e.stored) a p.0) ∙ ap records p.1)
 
-wider : (shape : Shape) (least most : List UploadData) (r : UploadData) (c : List ℕ) → IsBetween shape least most c → IsBetween shape least (most ++ r ∷ []) c
-wider shape least most r c b = record { list = b.list; stands = b.stands; begins = b.begins; ends = prefix_push b.list most r b.ends }
+wider : (shape : Shape) (least most : List UploadData) (r : UploadData) (c : List ℕ) → IsBetween (StandsFor shape) least most c
+    → IsBetween (StandsFor shape) least (most ++ r ∷ []) c
+wider shape least most r c b = record { list = b.list; is = b.is; begins = b.begins; ends = prefix_push b.list most r b.ends }
 
-placed : (shape : Shape) (least rs : List UploadData) (r : UploadData) (c : List ℕ) → IsPrefix least rs → StandsFor shape rs c ⊎ StandsFor shape
-    (rs ++ r ∷ []) c → IsBetween shape least (rs ++ r ∷ []) c
-placed shape least rs r c p (inl stands) = record { list = rs; stands = stands; begins = p; ends = (r ∷ [], refl) }
+placed : (shape : Shape) (least rs : List UploadData) (r : UploadData) (c : List ℕ) → IsPrefix least rs
+    → StandsFor shape rs c ⊎ StandsFor shape
+    (rs ++ r ∷ []) c → IsBetween (StandsFor shape) least (rs ++ r ∷ []) c
+placed shape least rs r c p (inl stands) = record { list = rs; is = stands; begins = p; ends = (r ∷ [], refl) }
 placed shape least rs r c p (inr stands) = record {
   list = rs ++ r ∷ [];
-  stands = stands;
+  is = stands;
   begins = prefix_push least rs r p;
   ends = (
     [],
@@ -50,14 +54,16 @@ placed shape least rs r c p (inr stands) = record {
 whole_list : (es : List Entry) (fault : Option Entry) → fault ≡ None → with_fault es fault ≡ es
 whole_list es fault whole = ap (with_fault es) whole
 
-module _ {D : Type 0} (honest : D → Type 0) (seen : D → List ℕ) (images : D → List ℕ → Type 0) (moment : D → ℕ) (since : D → ℕ → List ℕ → Type 0) where
+module _ {D : Type 0} (honest : D → Type 0) (seen : D → List ℕ) (images : D → List ℕ → Type 0) (moment : D → ℕ)
+    (since : D → ℕ → List ℕ → Type 0) where
   settled_before : (j : JournalState D) (c : List ℕ) → IsSettled honest seen images j → c ≡ seen j.disk → IsBefore j c
   settled_before j c s same = inr (subst (λ (f : List ℕ). Spells j.shape (records j.entries) f) (sym same) s.spells)
 
   module _ (only_now : (d : D) (c : List ℕ) → honest d → since d (moment d) c → images d c) where
     -- ---- a run begins at a journal that no call of the disk failed
 
-    pub run_start : (j : JournalState D) → honest j.disk → j.fault ≡ None → IsSettled honest seen images j → IsRun honest seen images moment since
+    pub run_start : (j : JournalState D) → honest j.disk → j.fault ≡ None → IsSettled honest seen images j
+        → IsRun honest seen images moment since
         (start_of seen moment j) j
     run_start j told whole s = record {
       told = told;
@@ -69,10 +75,10 @@ module _ {D : Type 0} (honest : D → Type 0) (seen : D → List ℕ) (images : 
       reads = λ none same. refl;
     }
       where
-        here : (c : List ℕ) → c ≡ seen j.disk → IsBetween j.shape (records j.entries) (records (with_fault j.entries j.fault)) c
+        here : (c : List ℕ) → c ≡ seen j.disk → IsBetween (StandsFor j.shape) (records j.entries) (records (with_fault j.entries j.fault)) c
         here c same = record {
           list = records j.entries;
-          stands = settled_before j c s same;
+          is = settled_before j c s same;
           begins = ([], append-nil (records j.entries));
           ends = ([], append-nil (records j.entries) ∙ ap records (sym (whole_list j.entries j.fault whole)));
         }
@@ -84,7 +90,8 @@ module _ {D : Type 0} (honest : D → Type 0) (seen : D → List ℕ) (images : 
 
     pub does_nothing : (pass : ℕ) (u : UploadData) (end : ℕ) (v old new : JournalState D) (r : Result Applied ApplyFault)
         → IsSound honest seen images end v → v ≡ old → new ≡ old
-        → Answers pass u old new r → ((c : List ℕ) → IsBefore old c → IsDuring pass u old r c) → ((c : List ℕ) → IsBefore old c → IsThen pass u old r c)
+        → Answers pass u old new r → ((c : List ℕ) → IsBefore old c → IsDuring pass u old r c)
+        → ((c : List ℕ) → IsBefore old c → IsThen pass u old r c)
         → Applies honest seen images moment since pass u old new r
     does_nothing pass u end v old new r sound is same answers during then = record {
       answers = answers;
@@ -114,14 +121,17 @@ module _ {D : Type 0} (honest : D → Type 0) (seen : D → List ℕ) (images : 
     module _ (start : Start D) (run : IsRun honest seen images moment since start v) (told : honest disk)
         (leaves : Leaves moment since After v.disk disk) where
       abbrev Between : List ℕ → Type 0
-      Between c = IsBetween v.shape (records start.entries) (records v.entries ++ e.stored ∷ []) c
+      Between c = IsBetween (StandsFor v.shape) (records start.entries) (records v.entries ++ e.stored ∷ []) c
 
-      was_between : (c : List ℕ) → IsBetween v.shape (records start.entries) (records (with_fault v.entries v.fault)) c → Between c
+      was_between : (c : List ℕ) → IsBetween (StandsFor v.shape) (records start.entries) (records (with_fault v.entries v.fault)) c
+          → Between c
       was_between c b = wider v.shape (records start.entries) (records v.entries) e.stored c
-          (subst (λ (l : List Entry). IsBetween v.shape (records start.entries) (records l) c) (whole_list v.entries v.fault whole) b)
+          (subst (λ (l : List Entry). IsBetween (StandsFor v.shape) (records start.entries) (records l) c)
+          (whole_list v.entries v.fault whole) b)
 
       now_between : (c : List ℕ) → After c → Between c
-      now_between c x = placed v.shape (records start.entries) (records v.entries) e.stored c (records_prefix start.entries v.entries run.begins)
+      now_between c x = placed v.shape (records start.entries) (records v.entries) e.stored c
+          (records_prefix start.entries v.entries run.begins)
           (⊎_elim (λ a. inl a) (λ b. inr (subst (λ (l : List UploadData). StandsFor v.shape l c) (records_push v.entries e) b)) x)
 
       each_file : (c : List ℕ) → since disk start.moment c → Between c
@@ -134,12 +144,14 @@ module _ {D : Type 0} (honest : D → Type 0) (seen : D → List ℕ) (images : 
           (leaves.before t c (omega (arith, le, run.early)) k)
 
       run_with : (j : JournalState D) → j.shape ≡ v.shape → with_fault j.entries j.fault ≡ v.entries ++ e ∷ [] → (c : List ℕ) → Between c
-          → IsBetween j.shape (records start.entries) (records (with_fault j.entries j.fault)) c
+          → IsBetween (StandsFor j.shape) (records start.entries) (records (with_fault j.entries j.fault)) c
       run_with j shape adds c b =
-          subst (λ (s : Shape). IsBetween s (records start.entries) (records (with_fault j.entries j.fault)) c) (sym shape)
-          (subst (λ (l : List UploadData). IsBetween v.shape (records start.entries) l c) (sym (ap records adds ∙ records_push v.entries e)) b)
+          subst (λ (s : Shape). IsBetween (StandsFor s) (records start.entries) (records (with_fault j.entries j.fault)) c) (sym shape)
+          (subst (λ (l : List UploadData). IsBetween (StandsFor v.shape) (records start.entries) l c)
+          (sym (ap records adds ∙ records_push v.entries e)) b)
 
-      pub run_stored : ((c : List ℕ) → images disk c → IsAfter pass u v c) → IsRun honest seen images moment since start (with_entry pass u disk v)
+      pub run_stored : ((c : List ℕ) → images disk c → IsAfter pass u v c)
+          → IsRun honest seen images moment since start (with_entry pass u disk v)
       run_stored after =
           let next = run_with (with_entry pass u disk v) refl (whole_list (v.entries ++ e ∷ []) v.fault whole) in
           record {
@@ -185,7 +197,8 @@ module _ {D : Type 0} (honest : D → Type 0) (seen : D → List ℕ) (images : 
         pub leaves_either : honest v.disk → Leaves moment since After v.disk disk
         leaves_either told =
             widen moment since (Appending (seen v.disk) end put) After v.disk disk (crash (sound.settled whole told).synced (within told))
-            (λ c p. ⊎_elim (λ a. inl a) (λ b. inr (subst (λ (l : List UploadData). StandsFor v.shape l c) (sym (records_push v.entries e)) b))
+            (λ c p. ⊎_elim (λ a. inl a) (λ b. inr
+            (subst (λ (l : List UploadData). StandsFor v.shape l c) (sym (records_push v.entries e)) b))
             (before_or_after v.shape (records v.entries) e.stored end sound.placed.place well (seen v.disk) (spelled told) c (subst (λ
             (l : List ℕ). Appending (seen v.disk) end l c) puts p)))
 
@@ -194,7 +207,8 @@ module _ {D : Type 0} (honest : D → Type 0) (seen : D → List ℕ) (images : 
           does_fail = record {
             answers = (new_is, refl);
             crash = λ told none. leaves_either told;
-            now = λ told none c image. let l = leaves_either told in l.each c (counts_now disk (moment v.disk) c (still told) l.later image);
+            now = λ told none c image. let l = leaves_either told in
+                l.each c (counts_now disk (moment v.disk) c (still told) l.later image);
             runs = λ start run. run_broken start run (still run.told) (leaves_either run.told);
           }
 
@@ -202,13 +216,15 @@ module _ {D : Type 0} (honest : D → Type 0) (seen : D → List ℕ) (images : 
           sound_broken = record { placed = sound.placed; settled = λ none told. absurd (cc) }
 
           module _ (synced : IsSynced honest seen images v.disk → IsSynced honest seen images disk)
-              (writes : IsSynced honest seen images v.disk → end < length (seen v.disk) → seen disk ≡ take end (seen v.disk) ++ 1 ∷ put ++ drop
+              (writes : IsSynced honest seen images v.disk → end < length (seen v.disk)
+              → seen disk ≡ take end (seen v.disk) ++ 1 ∷ put ++ drop
               (end + 1 + length put) (seen v.disk)) where
             spells_after : honest v.disk → Spells v.shape (records (v.entries ++ e ∷ [])) (seen disk)
             spells_after told =
                 subst (λ (l : List UploadData). Spells v.shape l (seen disk)) (sym (records_push v.entries e))
                 (with_it v.shape (records v.entries) e.stored end sound.placed.place well (seen v.disk) (spelled told) 1 (seen disk)
-                (writes (sound.settled whole told).synced (within told) ∙ ap (λ (l : List ℕ). take end (seen v.disk) ++ 1 ∷ l ++ drop (end + 1 + length l)
+                (writes (sound.settled whole told).synced (within told)
+                ∙ ap (λ (l : List ℕ). take end (seen v.disk) ++ 1 ∷ l ++ drop (end + 1 + length l)
                 (seen v.disk)) puts) refl)
 
             after_now : honest v.disk → (c : List ℕ) → images disk c → IsAfter pass u v c
@@ -216,7 +232,8 @@ module _ {D : Type 0} (honest : D → Type 0) (seen : D → List ℕ) (images : 
                 inr (subst (λ (l : List ℕ). Spells v.shape (records (v.entries ++ e ∷ [])) l) (sym ((synced
                 (sound.settled whole told).synced).only c image)) (spells_after told))
 
-            pub does_store : (p : ℕ) → p ≡ length v.entries → Applies honest seen images moment since pass u v (with_entry pass u disk v) (Ok (Stored p))
+            pub does_store : (p : ℕ) → p ≡ length v.entries → Applies honest seen images moment since pass u v (with_entry pass u disk v)
+                (Ok (Stored p))
             does_store p place = record {
               answers = (new_is, place, refl);
               crash = λ told none. leaves_either told;
@@ -224,7 +241,8 @@ module _ {D : Type 0} (honest : D → Type 0) (seen : D → List ℕ) (images : 
               runs = λ start run. run_stored start run (still run.told) (leaves_either run.told) (after_now run.told);
             }
 
-            pub sound_stored : (len : ℕ) → len ≡ length put → count_of (records v.entries ++ e.stored ∷ []) ≤ v.room → IsSound honest seen images
+            pub sound_stored : (len : ℕ) → len ≡ length put → count_of (records v.entries ++ e.stored ∷ []) ≤ v.room
+                → IsSound honest seen images
                 (end + len) (with_entry pass u disk v)
             sound_stored len size few = record {
               placed = record {

@@ -1,5 +1,6 @@
 -- The record that is stored for an upload.
-use Rattle.std.proofs.Common.{◌≡◌, ℕ, ◌+◌, ◌<◌, ◌≤◌, ◌^◌, Bool, true, false, cond, List, [], ◌∷◌, ◌++◌, length, Result, Ok, sym, ap, subst, arith, length-append}
+use Rattle.std.proofs.Common.{◌≡◌, ℕ, ◌+◌, ◌<◌, ◌≤◌, ◌^◌, Bool, true, false, cond, List, [], ◌∷◌, ◌++◌, length, Result, Ok, sym, ap, subst}
+use Rattle.std.proofs.Common.{arith, length-append}
 use Rattle.std.specs.Prelude.{filter, IsOkAnd}
 use Rattle.std.specs.List.{AllByRecursion, IsDistinct}
 use Rattle.std.proofs.lemmas.List.{map-append}
@@ -38,7 +39,8 @@ filter_few p (c ∷ cs) =
       | false ↦ omega (arith, filter_few p cs)
     ]
 
-filter_fits : (p : Column → Bool) (dims : Dims) (cs : List Column) → AllByRecursion IsColumn cs → AllByRecursion (λ (c : Column). c.dims ≡ dims) cs
+filter_fits : (p : Column → Bool) (dims : Dims) (cs : List Column) → AllByRecursion IsColumn cs
+    → AllByRecursion (λ (c : Column). c.dims ≡ dims) cs
     → AllByRecursion (IsColumnOf dims) (filter p cs)
 filter_fits p dims [] a b = tt
 filter_fits p dims (c ∷ cs) a b =
@@ -47,7 +49,8 @@ filter_fits p dims (c ∷ cs) a b =
       | false ↦ filter_fits p dims cs a.1 b.1
     ]
 
-module _ (shape : Shape) (room : ℕ) (es : List Entry) (pass : ℕ) (u : UploadData) (mask : ℕ) (is : checked shape room (records es) u ≡ Ok mask)
+module _ (shape : Shape) (room : ℕ) (es : List Entry) (pass : ℕ) (u : UploadData) (mask : ℕ)
+    (is : checked shape room (records es) u ≡ Ok mask)
     (more : mask ≡ 0 → ⊥) where
   abbrev fresh : List Column
   fresh = new_columns (content es) u.columns
@@ -81,7 +84,8 @@ module _ (shape : Shape) (room : ℕ) (es : List Entry) (pass : ℕ) (u : Upload
       seq = full.seq;
       some = some;
       few = omega (arith, filter_few (is_new (content es)) u.columns, full.columns.few);
-      each = filter_fits (is_new (content es)) (dims_of shape) u.columns full.each (recursion_from_All (IsSized shape) u.columns has_room.fitting.sized);
+      each = filter_fits (is_new (content es)) (dims_of shape) u.columns full.each
+          (recursion_from_All (IsSized shape) u.columns has_room.fitting.sized);
     }
 
     pub next : AreRecords (dims_of shape) (records es ++ r ∷ [])
@@ -92,7 +96,8 @@ module _ (shape : Shape) (room : ℕ) (es : List Entry) (pass : ℕ) (u : Upload
           (recursion_from_All (λ c. is_new (content es) c ≡ true) fresh (filter_passes (is_new (content es)) u.columns)));
     }
 
-    pub in_range : (end : ℕ) (put : List ℕ) → end ≡ length (front shape (records es)) → room ≤ ROOM → FitsShape shape → put ≡ body r ++ 0 ∷ []
+    pub in_range : (end : ℕ) (put : List ℕ) → end ≡ length (front shape (records es)) → room ≤ ROOM → FitsShape shape
+        → put ≡ body r ++ 0 ∷ []
         → end + 1 + length put ≤ 2 ^ 40
     in_range end put place small shape_fits puts =
         omega (

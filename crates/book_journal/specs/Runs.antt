@@ -8,6 +8,7 @@ use Rattle.sketchlet_wire.specs.Uploads.{UploadData}
 use Rattle.column_book.specs.declared.entry.Entry.{Entry}
 use Rattle.column_book.specs.declared.book.TheConstants.{ROOM}
 use Rattle.column_book.specs.Entries.{BookState, records}
+use Rattle.book_file.specs.Between.{IsBetween}
 use Rattle.book_file.specs.File.{front, AreRecords, Spells, StandsFor}
 use Rattle.book_file.specs.Found.{count_of}
 use Rattle.book_journal.specs.Crashes.{IsSynced}
@@ -25,13 +26,6 @@ pub record JournalState (D : Type 0) : Type 0 where
 abbrev pub with_fault : List Entry → Option Entry → List Entry
 with_fault es None = es
 with_fault es (Some e) = es ++ e ∷ []
-
--- The file stands for a list that begins with the one list of records and is a front of the other.
-pub record IsBetween (shape : Shape) (least most : List UploadData) (file : List ℕ) : Type 0 where
-  pub list : List UploadData
-  pub stands : StandsFor shape list file
-  pub begins : IsPrefix least list
-  pub ends : IsPrefix list most
 
 -- Where a run begins: a disk, a moment, the entries of a journal, and a file.
 pub record Start (D : Type 0) : Type 0 where
@@ -54,9 +48,9 @@ pub record IsRun {D : Type 0} (honest : D → Type 0) (seen : D → List ℕ) (i
   pub early : s.moment ≤ moment j.disk
   pub begins : IsPrefix s.entries j.entries
   pub each : (c : List ℕ) → since j.disk s.moment c
-      → IsBetween j.shape (records s.entries) (records (with_fault j.entries j.fault)) c
+      → IsBetween (StandsFor j.shape) (records s.entries) (records (with_fault j.entries j.fault)) c
   pub before : (t : ℕ) (c : List ℕ) → t ≤ s.moment → since j.disk t c
-      → since s.disk t c ⊎ IsBetween j.shape (records s.entries) (records (with_fault j.entries j.fault)) c
+      → since s.disk t c ⊎ IsBetween (StandsFor j.shape) (records s.entries) (records (with_fault j.entries j.fault)) c
   pub now : (c : List ℕ) → images j.disk c
       → StandsFor j.shape (records j.entries) c ⊎ StandsFor j.shape (records (with_fault j.entries j.fault)) c
   pub reads : j.fault ≡ None → j.entries ≡ s.entries → seen j.disk ≡ s.file

@@ -8,11 +8,12 @@ use mathlib.Core.List.{IsPrefix}
 use Rattle.lg_model.specs.Placing.{Shape}
 use Rattle.lg_model.specs.Scenario.{Scenario}
 use Rattle.sketchlet_wire.specs.Uploads.{UploadData}
+use Rattle.book_file.specs.Between.{Files, Standing, IsBetween}
 use Rattle.book_file.specs.File.{IsBlank, StandsFor}
 use Rattle.book_file.proofs.Law as files
 use Rattle.book_laws.specs.Legal.{Order, IsLegal}
 use Rattle.book_laws.specs.Keeping.{HasKeysOnce}
-use Rattle.book_laws.specs.Leaving.{Files, Standing, IsBetween, IsSettled, IsLeft, IsLeftByFiles}
+use Rattle.book_laws.specs.Leaving.{IsSettled, IsLeft, IsLeftByFiles}
 use Rattle.book_laws.specs.Laws.{LawOfStanding, LawOfFilesLeft}
 use Rattle.book_laws.proofs.Growing.{legal_between}
 use Rattle.book_laws.proofs.Lists.{front_itself, front_of_front, front_length, shorter_front}
@@ -77,7 +78,8 @@ module _ (stands : Standing) (order : Order) (w : Scenario) (before kept full : 
       at_first c is = record { list = before; is = is; begins = front_itself before; ends = front_of_front before kept full least front }
 
   -- file by file, where a file stands for one list
-  pub by_files : ((c : List ℕ) (l m : List UploadData) → stands l c → stands m c → l ≡ m) → IsLeft stands order w before was now since kept full →
+  pub by_files : ((c : List ℕ) (l m : List UploadData) → stands l c → stands m c → l ≡ m)
+      → IsLeft stands order w before was now since kept full →
       IsLeftByFiles stands order w before was now since
   by_files one left = record {
     each = λ c s. elim (left.moments c s) as (λ _. was c ⊎ ((l : List UploadData) × stands l c × IsLegal order w before l)) [
@@ -104,7 +106,8 @@ module _ (stands : Standing) (order : Order) (w : Scenario) (before kept full : 
   }
     where
       front_of : IsSettled stands before was → (c : List ℕ) (l : List UploadData) → since c → stands l c → IsPrefix l full
-      front_of set c l s is = let b = left.settled set c s in subst (λ (x : List UploadData). IsPrefix x full) (one c b.list l b.is is) b.ends
+      front_of set c l s is = let b = left.settled set c s in
+          subst (λ (x : List UploadData). IsPrefix x full) (one c b.list l b.is is) b.ends
 
 pub law : (was now since : Files) → LawOfFilesLeft was now since
 law was now since order w before kept full left = by_files (StandsFor w.shape) order w before kept full was now since

@@ -1,11 +1,10 @@
 -- The uploads of a scenario: where each stands, and that they have just the columns that are brought.
-use Rattle.std.specs.Prelude.{◌≡◌, ℕ, suc, ◌+◌, ◌<◌, ◌≤◌, List, [], ◌∷◌, ◌++◌, length, map, All, Contains, slice_index_or}
-use Rattle.std.specs.List.{flat_map, enumerate_from, range_with_len}
-use Rattle.std.proofs.Common.{refl, sym, ap, ◌∙◌, subst, arith}
+use Rattle.std.specs.Prelude.{◌≡◌, ℕ, suc, ◌+◌, ◌<◌, ◌≤◌, List, [], length, All, Contains, slice_index_or}
+use Rattle.std.specs.List.{enumerate_from, range_with_len}
+use Rattle.std.proofs.Common.{sym, ap, ◌∙◌, subst, arith}
 use Rattle.std.proofs.lemmas.List.{length-map, get_or-map}
 use Rattle.std.proofs.lemmas.List.FromFn.{length-enumerate_from, get_or-enumerate_from}
 use Rattle.std.proofs.lemmas.List.Elements.{All-from_recursion, All-get_or, All-contains, Contains-get_or}
-use Rattle.std.proofs.lemmas.Grind.{flat_map-append}
 use Rattle.lg_model.specs.declared.scenario.HostLine.{HostLine}
 use Rattle.lg_model.specs.Scenario.{Scenario}
 use Rattle.lg_model.specs.Carrying.{picked}
@@ -13,9 +12,10 @@ use Rattle.lg_model.specs.Arriving.{brought, brought_to_all}
 use Rattle.lg_model.specs.Columns.{Column, dims_of}
 use Rattle.sketchlet_wire.specs.Uploads.{UploadData, IsUpload, upload_of}
 use Rattle.host_collect.specs.Cutting.{Piece, cut}
-use Rattle.host_collect.proofs.Cutting.{cut_law, cut_whole}
+use Rattle.host_collect.proofs.Cutting.{cut_law}
 use Rattle.column_book.specs.Entries.{columns_in}
 use Rattle.run_laws.specs.Booking.{host_uploads, uploads_of}
+use Rattle.run_laws.proofs.Bookings.{columns_from}
 use Rattle.run_laws.proofs.Brought.{all_flat as each_flat, brought_dims}
 use Rattle.book_laws.specs.Legal.{no_host, host_at, uploads_at, no_upload, upload_at}
 use Rattle.book_laws.specs.Turns.{count_before}
@@ -41,7 +41,8 @@ numbered_at w h q low =
     let size = length-map (enumerate_from 0 ps) (made w h) in
     let count = length-enumerate_from 0 ps in
     let few : q < length ps = omega (arith, low, size, count) in
-    let item : slice_index_or (enumerate_from 0 ps) q (0, []) ≡ (0 + q, slice_index_or ps q []) = get_or-enumerate_from 0 ps q (0, []) few in
+    let item : slice_index_or (enumerate_from 0 ps) q (0, []) ≡ (0 + q, slice_index_or ps q []) =
+    get_or-enumerate_from 0 ps q (0, []) few in
     let is : upload_at w h q ≡ made w h (0 + q, slice_index_or ps q []) =
     get_or-map (made w h) (enumerate_from 0 ps) q (0, []) no_upload (omega (arith, few, count)) ∙ ap (made w h) item in
     let zero_more : 0 + q ≡ q = omega arith in
@@ -88,7 +89,8 @@ sent_at w p low =
     let inside = o.inside in
     let many = length-enumerate_from 0 w.hosts in
     let declared : o.at < length w.hosts = omega (arith, inside, many) in
-    let sent : o.nth < length (uploads_at w o.at) = subst (λ (x : ℕ × HostLine). o.nth < length (host_uploads w x)) (host_there w o.at declared) o.low in
+    let sent : o.nth < length (uploads_at w o.at) =
+    subst (λ (x : ℕ × HostLine). o.nth < length (host_uploads w x)) (host_there w o.at declared) o.low in
     record {
       at = o.at;
       seq = o.nth;
@@ -111,20 +113,8 @@ count_rises w h i low = offset_rises (host_uploads w) (enumerate_from 0 w.hosts)
 
 -- ---- the columns
 
-numbered_columns : (host k : ℕ) (ps : List Piece) →
-    columns_in (map (λ (p : ℕ × Piece). upload_of host p.0 p.1) (enumerate_from k ps)) ≡ flat_map (λ (p : Piece). p) ps
-numbered_columns host k [] = refl
-numbered_columns host k (p ∷ ps) = ap (λ (cs : List Column). p ++ cs) (numbered_columns host (k + 1) ps)
-
-host_columns : (w : Scenario) (k : ℕ) (hs : List HostLine) →
-    columns_in (flat_map (host_uploads w) (enumerate_from k hs)) ≡ flat_map (brought w (picked w)) (range_with_len k (length hs))
-host_columns w k [] = refl
-host_columns w k (h ∷ hs) =
-    flat_map-append (λ (u : UploadData). u.columns) (host_uploads w (k, h)) (flat_map (host_uploads w) (enumerate_from (k + 1) hs))
-    ∙ (λ j. (numbered_columns h.name 0 (cut (brought w (picked w) k)) ∙ cut_whole (brought w (picked w) k)) j ++ host_columns w (k + 1) hs j)
-
 pub columns_are : (w : Scenario) → columns_in (uploads_of w) ≡ brought_to_all w (picked w)
-columns_are w = host_columns w 0 w.hosts
+columns_are w = columns_from w 0 w.hosts
 
 -- each column of an upload is brought
 pub own_columns : (w : Scenario) (h q : ℕ) → h < length w.hosts → q < length (uploads_at w h) →

@@ -12,11 +12,12 @@ use Rattle.column_book.specs.declared.entry.Entry.{Entry}
 use Rattle.column_book.specs.declared.fault.BookFault.{BookFault}
 use Rattle.column_book.specs.Entries.{records, columns_in, content_in}
 use Rattle.column_book.specs.Applying.{decide, stored_entry, with_new}
+use Rattle.book_file.specs.Between.{Files}
 use Rattle.book_file.specs.File.{StandsFor}
 use Rattle.run_laws.specs.Booking.{uploads_of}
 use Rattle.scenario_parts.specs.Whole.{IsWhole}
 use Rattle.book_laws.specs.Legal.{Order, in_order, IsLegal, uploads_at, upload_at}
-use Rattle.book_laws.specs.Leaving.{Files, IsLeft, IsLeftByFiles}
+use Rattle.book_laws.specs.Leaving.{IsLeft, IsLeftByFiles}
 use Rattle.book_laws.specs.Keeping.{IsHeld, AllHeld, HasKeysOnce, IsJoined, IsCaused, AreAcked}
 use Rattle.book_laws.specs.Truth.{IsTrueFrom}
 use Rattle.book_laws.specs.Turns.{Turn, applied, IsFirstRefused, HasApplied, count_before, among_first}

@@ -3,22 +3,8 @@ use Rattle.std.specs.Prelude.{◌⊎◌, ℕ, ◌+◌, ◌≤◌, List, length}
 use mathlib.Core.List.{IsPrefix}
 use Rattle.lg_model.specs.Scenario.{Scenario}
 use Rattle.sketchlet_wire.specs.Uploads.{UploadData}
+use Rattle.book_file.specs.Between.{Files, Standing, IsBetween}
 use Rattle.book_laws.specs.Legal.{Order, IsLegal}
-
--- A set of files.
-abbrev pub Files : Type 1
-Files = List ℕ → Type 0
-
--- Which files stand for a list of records.
-abbrev pub Standing : Type 1
-Standing = List UploadData → Files
-
--- The file stands for a list that begins with the one list and is a front of the other.
-pub record IsBetween (stands : Standing) (least most : List UploadData) (file : List ℕ) : Type 0 where
-  pub list : List UploadData
-  pub is : stands list file
-  pub begins : IsPrefix least list
-  pub ends : IsPrefix list most
 
 -- A disk is settled at a list: whatever file a crash leaves stands for it.
 abbrev pub IsSettled : Standing → List UploadData → Files → Type 0

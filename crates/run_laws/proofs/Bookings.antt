@@ -37,7 +37,8 @@ numbered_columns host k (p ∷ ps) = ap (λ (cs : List Column). p ++ cs) (number
 host_columns : (w : Scenario) (k : ℕ) (h : HostLine) → columns_in (host_uploads w (k, h)) ≡ brought w (picked w) k
 host_columns w k h = numbered_columns h.name 0 (cut (brought w (picked w) k)) ∙ cut_whole (brought w (picked w) k)
 
-columns_from : (w : Scenario) (k : ℕ) (hs : List HostLine) →
+-- the columns of the uploads of all hosts are those that are brought
+pub columns_from : (w : Scenario) (k : ℕ) (hs : List HostLine) →
     columns_in (flat_map (host_uploads w) (enumerate_from k hs)) ≡ flat_map (brought w (picked w)) (range_with_len k (length hs))
 columns_from w k [] = refl
 columns_from w k (h ∷ hs) =

@@ -9,7 +9,8 @@ use Rattle.book_file.proofs.reading.columns_of.Goals as goal
 pub returns-in_default : goal.returns-in_default
 returns-in_default c =
     let i = c.loop.invariant in
-    no_columns c.args.dims c.loop.columns.items c.args.bytes.now c.loop.left.now c.args.count i.each i.parts (omega (arith, i.count, c.loop-test.true))
+    no_columns c.args.dims c.loop.columns.items c.args.bytes.now c.loop.left.now c.args.count i.each i.parts
+    (omega (arith, i.count, c.loop-test.true))
     (none_there c.args.dims c.loop.left.now _ c.in_default.ensures)
 
 pub loop-preserved : goal.loop-preserved
@@ -21,7 +22,8 @@ loop-preserved c =
     let adds = c.in_ok-push.ensures.items in
     record {
       count = omega (arith, ap length adds, length-append items (column ∷ []), i.count);
-      each = subst (λ (l : List Column). AllByRecursion (IsColumnOf c.args.dims) l) (sym adds) (all_push (IsColumnOf c.args.dims) items column i.each f.0);
+      each = subst (λ (l : List Column). AllByRecursion (IsColumnOf c.args.dims) l) (sym adds)
+          (all_push (IsColumnOf c.args.dims) items column i.each f.0);
       parts = column_more items c.push.new.self.items column c.args.bytes.now c.loop.left.now c.in-Ok.found.1.now adds i.parts f.1.parts;
       fits = f.1.rest_fits;
     }

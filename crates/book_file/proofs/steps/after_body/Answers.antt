@@ -16,7 +16,8 @@ returns-in-Ok-Some c = λ asked room len going.
     let b = c.args.book in
     let bytes = c.args.bytes.now in
     let found = rw c.in-Ok-Some.field-0-is at c.in-Ok-Some.ensures in
-    subst (λ (l : List ℕ). Steps asked room len c.args.at c.after_record.result bytes (front b.shape (records b.entries) ++ 1 ∷ l)) (sym found.2) (c.after_record.ensures asked room len bytes going)
+    subst (λ (l : List ℕ). Steps asked room len c.args.at c.after_record.result bytes (front b.shape (records b.entries) ++ 1 ∷ l))
+    (sym found.2) (c.after_record.ensures asked room len bytes going)
 
 pub returns-in-Ok-None : goal.returns-in-Ok-None
 returns-in-Ok-None c = λ asked room len going.
@@ -24,6 +25,8 @@ returns-in-Ok-None c = λ asked room len going.
     let bytes = c.args.bytes.now in
     let none = rw c.in-Ok-None.field-0-is at c.in-Ok-None.ensures in
     let dims : c.dims_of.result ≡ dims_of b.shape = c.dims_of.ensures.value ∙ ap dims_of c.shape.ensures in
-    let here = subst (λ (d : Dims). (r : UploadData) → IsRecord d r → IsDistinct same_column_key (keys_of r.columns) → bytes ≡ body r → ⊥) dims none in
+    let here = subst (λ (d : Dims). (r : UploadData) → IsRecord d r → IsDistinct same_column_key (keys_of r.columns) → bytes ≡ body r → ⊥)
+    dims none in
     subst (λ (s : Stage). Steps asked room len c.args.at s bytes (front b.shape (records b.entries) ++ 1 ∷ bytes)) (sym c.damaged.ensures)
-    (known asked room len c.args.at _ bytes _ (breaks asked room c.args.at b going len bytes (no_upload b.shape (records b.entries) bytes c.requires.count c.requires.size here)))
+    (known asked room len c.args.at _ bytes _
+    (breaks asked room c.args.at b going len bytes (no_upload b.shape (records b.entries) bytes c.requires.count c.requires.size here)))

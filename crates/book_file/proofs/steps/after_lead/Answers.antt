@@ -13,4 +13,5 @@ returns-else-is_count c = λ asked room len going.
     let lead = c.args.lead.now in
     let bad : (1 ≤ get_or lead 6 0) × (get_or lead 6 0 ≤ 16) → ⊥ = MatchBool-at_false _ _ c.if-is_count.false c.is_count.ensures in
     subst (λ (s : Stage). Steps asked room len c.args.at s lead (front b.shape (records b.entries) ++ 1 ∷ lead)) (sym c.damaged.ensures)
-    (known asked room len c.args.at _ lead _ (breaks asked room c.args.at b going len lead (bad_count b.shape (records b.entries) lead c.requires bad)))
+    (known asked room len c.args.at _ lead _
+    (breaks asked room c.args.at b going len lead (bad_count b.shape (records b.entries) lead c.requires bad)))

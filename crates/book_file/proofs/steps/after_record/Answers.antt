@@ -1,4 +1,5 @@
-use Rattle.std.proofs.Common.{◌≡◌, ◌++◌, ◌∷◌, ◌+◌, ◌^◌, ◌<◌, ◌∙◌, ℕ, true, false, List, Option, Err, length, refl, sym, ap, subst, arith, true≢false}
+use Rattle.std.proofs.Common.{◌≡◌, ◌++◌, ◌∷◌, ◌+◌, ◌^◌, ◌<◌, ◌∙◌, ℕ, true, false, List, Option, Err, length, refl, sym, ap, subst, arith}
+use Rattle.std.proofs.Common.{true≢false}
 use Rattle.std.specs.Prelude.{◌==◌}
 use Rattle.std.proofs.lemmas.Bool.{MatchBool-at_true, MatchBool-at_false, eqb-true}
 use Rattle.std.proofs.lemmas.Bool.Decides.{Decides-eqb}
@@ -64,7 +65,8 @@ module _ (u : UploadData) (b : BookState) (full : IsFull u) (fits : IsRecord (di
 
     decides : (f : BookFault) (r : OpenFault) → checked b.shape b.room (records b.entries) u ≡ Err f → Tells f r → Read r
     decides (WrongShape kept came) r is tells =
-        let sized = all_map (IsColumnOf (dims_of b.shape)) (λ (c : Column). c.dims ≡ dims_of b.shape) (λ c x. x.sized) u.columns fits.each in
+        let sized = all_map (IsColumnOf (dims_of b.shape)) (λ (c : Column). c.dims ≡ dims_of b.shape)
+        (λ c x. x.sized) u.columns fits.each in
         absurd (no_misfit b.shape b.room b.entries u kept came is sized)
     decides (Conflict key kept came) r is tells =
         some_known r (no_conflict b.shape b.room b.entries u key kept came is) (tells.is_other (λ held e. cc))
@@ -79,7 +81,8 @@ module _ (u : UploadData) (b : BookState) (full : IsFull u) (fits : IsRecord (di
               past.has (same ∙ size) over)
           | false ↦ λ no.
               let other : more ≡ count → ⊥ = λ e. true≢false (sym ((Decides-eqb more count).1 e) ∙ no) in
-              some_known r (λ all. other (count_full b.shape b.room b.entries u held more is all ∙ sym size)) (tells.is_other (λ h e. other (cc)))
+              some_known r (λ all. other (count_full b.shape b.room b.entries u held more is all ∙ sym size))
+              (tells.is_other (λ h e. other (cc)))
         ]) refl
 
 pub returns-in-Err : goal.returns-in-Err

@@ -12,6 +12,7 @@ returns-in-Head-clause-finds c = λ asked room len read s size e.
 
 pub returns-in_default : goal.returns-in_default
 returns-in_default c = record {
-  finds = λ asked room len read s size e. cut_later asked room len c.args.gate c.args.rest.now read c.args.stage.now c.in_default.not-Head c.in_default.not-Gate e s;
+  finds = λ asked room len read s size e. cut_later asked room len c.args.gate c.args.rest.now read c.args.stage.now c.in_default.not-Head
+      c.in_default.not-Gate e s;
   memory = λ e m. absurd cc;
 }

@@ -19,5 +19,8 @@ returns-clause-bytes c = λ p is.
     let lead = c.in_ok-extend_from_slice.ensures.items ∙ ap (λ (l : List ℕ). l ++ c.lead_of.result) c.in_ok-out.ensures.items in
     let cols = c.in_ok-put_columns.ensures p here ∙ ap (λ (l : List ℕ). l ++ flat_map column_bytes (filter p cs)) lead in
     c.in_ok-push.ensures.items
-    ∙ ap (λ (l : List ℕ). l ++ 0 ∷ []) (cols ∙ body_parts r c.lead_of.result (flat_map column_bytes (filter p cs)) c.host.result c.seq.result c.count_of-count.result c.lead_of.ensures c.host.ensures c.seq.ensures count
+    ∙ ap (λ (l : List ℕ). l ++ 0 ∷ [])
+    (cols ∙ body_parts r c.lead_of.result
+    (flat_map column_bytes (filter p cs)) c.host.result c.seq.result c.count_of-count.result c.lead_of.ensures c.host.ensures
+    c.seq.ensures count
     (ap (λ (l : List Column). flat_map column_bytes (filter p l)) same))

@@ -15,9 +15,11 @@ loop-column-preserved c =
       left = left_next c.args.mask cs k left lt i.left;
       bytes = λ p is. elim c.if-left-eq1.branch [
         | then-left-eq1+in_ok-put_column w ↦
-            put_more c.args.mask cs k left lt i.left p is c.column-item.result start c.loop-column.out.items c.if-left-eq1.out.items c.column-item.is w.if-left-eq1.true (i.bytes p is)
+            put_more c.args.mask cs k left lt i.left p is c.column-item.result start c.loop-column.out.items c.if-left-eq1.out.items
+            c.column-item.is w.if-left-eq1.true (i.bytes p is)
             (ap (λ v. v.items) w.out-is ∙ w.in_ok-put_column.ensures)
         | else-left-eq1 w ↦
-            ap (λ v. v.items) w.out-is ∙ put_none c.args.mask cs k left lt i.left p is start c.loop-column.out.items w.if-left-eq1.false (i.bytes p is)
+            ap (λ v. v.items) w.out-is ∙ put_none c.args.mask cs k left lt i.left p is start c.loop-column.out.items w.if-left-eq1.false
+            (i.bytes p is)
       ];
     }

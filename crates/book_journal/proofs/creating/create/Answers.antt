@@ -8,7 +8,8 @@ use Rattle.book_journal.proofs.creating.create.Goals as goal
 
 pub returns-in_err-cut_synced-clause-crash : goal.returns-in_err-cut_synced-clause-crash
 returns-in_err-cut_synced-clause-crash g c synced blank =
-    widen g.D.Disk.moment g.D.Disk.since (Shorter 0 (g.D.Disk.seen c.args.disk.now)) (StandsFor c.args.shape.now []) c.args.disk.now c.cut_synced.new.disk
+    widen g.D.Disk.moment g.D.Disk.since (Shorter 0 (g.D.Disk.seen c.args.disk.now))
+    (StandsFor c.args.shape.now []) c.args.disk.now c.cut_synced.new.disk
     (c.cut_synced.ensures.crash synced)
     (λ f s. inl (blank_cut (g.D.Disk.seen c.args.disk.now) f blank s, refl))
 
@@ -28,7 +29,8 @@ returns-clause-crash g c synced blank =
     let gate = zero_written (g.D.Disk.seen c.cut_synced.new.disk) (g.D.Disk.seen c.write_synced.new.disk) gone
     (c.in_ok-write_synced.ensures.written second (omega arith)) in
     let inside : 0 < length (g.D.Disk.seen c.write_synced.new.disk) = omega (arith, ap length gate) in
-    let cleared = after g.D.Disk.moment g.D.Disk.since (Shorter 0 (g.D.Disk.seen c.args.disk.now)) (Torn 0 1 (g.D.Disk.seen c.cut_synced.new.disk))
+    let cleared = after g.D.Disk.moment g.D.Disk.since (Shorter 0 (g.D.Disk.seen c.args.disk.now))
+    (Torn 0 1 (g.D.Disk.seen c.cut_synced.new.disk))
     (StandsFor c.args.shape.now []) c.args.disk.now c.cut_synced.new.disk c.write_synced.new.disk
     (c.cut_synced.ensures.crash synced) (c.write_synced.ensures.crash second)
     (λ f s. inl (blank_cut (g.D.Disk.seen c.args.disk.now) f blank s, refl))

@@ -9,7 +9,8 @@ loop-at-preserved g c =
     let i = c.loop-at.invariant in
     let f = c.feed.ensures.fed in
     let n = c.min-count.result in
-    let full : length (take n c.loop-at.buf) ≡ n = omega (arith, length-take n c.loop-at.buf, c.min-count.array_long, c.min-count.ensures) in
+    let full : length (take n c.loop-at.buf) ≡ n =
+    omega (arith, length-take n c.loop-at.buf, c.min-count.array_long, c.min-count.ensures) in
     let size : length c.read_piece.new.buf ≡ n = omega (arith, c.read_piece.auto.buf, full) in
     let within : c.loop-at.at + n ≤ c.args.len = omega (arith, c.min-count.ensures, c.loop-at-test.true) in
     let old = g.D.Disk.seen c.args.disk.now in
@@ -19,9 +20,11 @@ loop-at-preserved g c =
       small = within;
       whole = f.len ∙ i.whole;
       size = i.size;
-      reads = then_read g.D.Disk.honest g.D.Disk.seen g.D.Disk.images g.D.Disk.moment g.D.Disk.since g.met.D.Disk.counts_now c.args.disk.now c.loop-at.disk
+      reads = then_read g.D.Disk.honest g.D.Disk.seen g.D.Disk.images g.D.Disk.moment g.D.Disk.since g.met.D.Disk.counts_now c.args.disk.now
+          c.loop-at.disk
           c.read_piece.new.disk i.reads c.read_piece.ensures.reads;
-      fed = is_fed_then (g.D.Disk.honest c.args.disk.now) old c.args.walk.now c.loop-at.walk c.feed.new.self c.loop-at.at c.read_piece.new.buf i.start
+      fed = is_fed_then (g.D.Disk.honest c.args.disk.now) old c.args.walk.now c.loop-at.walk c.feed.new.self c.loop-at.at
+          c.read_piece.new.buf i.start
           i.place i.fed f
           (λ h.
           let same : g.D.Disk.seen c.loop-at.disk ≡ old = i.reads.same h in

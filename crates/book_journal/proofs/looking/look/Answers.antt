@@ -4,7 +4,8 @@ use Rattle.book_journal.proofs.LookLemmas.{looked_book, looked_fault}
 use Rattle.book_journal.proofs.looking.look.Goals as goal
 
 pub returns-in-Err-clause-looks : goal.returns-in-Err-clause-looks
-returns-in-Err-clause-looks g c = looked_fault _ (g.D.Disk.honest c.args.disk.now) (g.D.Disk.seen c.args.disk.now) c.in-Err.fault c.in-Err.ensures.finds
+returns-in-Err-clause-looks g c =
+    looked_fault _ (g.D.Disk.honest c.args.disk.now) (g.D.Disk.seen c.args.disk.now) c.in-Err.fault c.in-Err.ensures.finds
 
 pub returns-in-Ok-Book-clause-looks : goal.returns-in-Ok-Book-clause-looks
 returns-in-Ok-Book-clause-looks g c = looked_book _ (g.D.Disk.honest c.args.disk.now) (g.D.Disk.seen c.args.disk.now) c.in-Ok-Book.book _

@@ -13,9 +13,11 @@ returns-in-Err-clause-finds g c = λ told. outside _ c.args.room (g.D.Disk.hones
 
 pub returns-clause-reads : goal.returns-clause-reads
 returns-clause-reads g c =
-    then_read g.D.Disk.honest g.D.Disk.seen g.D.Disk.images g.D.Disk.moment g.D.Disk.since g.met.D.Disk.counts_now c.args.disk.now c.len.new.self
+    then_read g.D.Disk.honest g.D.Disk.seen g.D.Disk.images g.D.Disk.moment g.D.Disk.since g.met.D.Disk.counts_now c.args.disk.now
+    c.len.new.self
     c.feed_all.new.disk
-    (one_read g.D.Disk.honest g.D.Disk.seen g.D.Disk.images g.D.Disk.moment g.D.Disk.since c.args.disk.now c.len.new.self c.len.ensures.course
+    (one_read g.D.Disk.honest g.D.Disk.seen g.D.Disk.images g.D.Disk.moment g.D.Disk.since c.args.disk.now c.len.new.self
+    c.len.ensures.course
     c.len.ensures.seen)
     c.feed_all.ensures.reads
 

@@ -9,7 +9,8 @@ returns-in-Ok-Blank-clause-leaves g c = λ told.
     let old = c.args.disk.now in
     let mid = c.read_synced.new.disk in
     let reads = c.read_synced.ensures.reads in
-    let blank = blank_found c.args.shape.now c.args.room (g.D.Disk.honest old) (g.D.Disk.seen old) c.read_synced.result (c.in-Ok-Blank.is ∙ ap (λ
+    let blank = blank_found c.args.shape.now c.args.room (g.D.Disk.honest old) (g.D.Disk.seen old) c.read_synced.result
+    (c.in-Ok-Blank.is ∙ ap (λ
     (f : Found). Ok f) c.in-Ok-Blank.field-0-is) c.read_synced.ensures.finds told in
     begun_leaves g.D.Disk.honest g.D.Disk.seen g.D.Disk.images g.D.Disk.moment g.D.Disk.since c.args.shape.now g.met.D.Disk.reads_image
     g.met.D.Disk.counts_now old mid c.begin.new.disk told reads c.begin.ensures.still blank

@@ -11,5 +11,6 @@ pub returns-clause-crash : goal.returns-clause-crash
 returns-clause-crash g c synced =
     let first = wrote g.D.Disk.honest g.D.Disk.seen g.D.Disk.images g.D.Disk.moment g.D.Disk.since c.args.at
     (length c.args.bytes.now) c.args.disk.now c.write_at.new.self c.write_at.ensures.course synced in
-    kept g.D.Disk.honest g.D.Disk.seen g.D.Disk.images g.D.Disk.moment g.D.Disk.since g.met.D.Disk.counts_now _ c.args.disk.now c.write_at.new.self
+    kept g.D.Disk.honest g.D.Disk.seen g.D.Disk.images g.D.Disk.moment g.D.Disk.since g.met.D.Disk.counts_now _ c.args.disk.now
+    c.write_at.new.self
     c.sync.new.self (c.write_at.ensures.course.still synced.told) first c.sync.ensures.course

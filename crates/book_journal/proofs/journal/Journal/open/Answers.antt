@@ -9,7 +9,8 @@ use Rattle.book_journal.proofs.journal.Journal.open.Goals as goal
 
 pub returns-in-Err-clause-complete : goal.returns-in-Err-clause-complete
 returns-in-Err-clause-complete g c = λ told rs stands few.
-    only_outside c.args.shape.now c.args.room (g.D.Disk.honest c.args.disk) (g.D.Disk.seen c.args.disk) c.in-Err.fault c.in-Err.ensures.refused told rs
+    only_outside c.args.shape.now c.args.room (g.D.Disk.honest c.args.disk)
+    (g.D.Disk.seen c.args.disk) c.in-Err.fault c.in-Err.ensures.refused told rs
     stands few
 
 pub returns-in-Ok-clause-runs : goal.returns-in-Ok-clause-runs
@@ -19,5 +20,6 @@ returns-in-Ok-clause-runs g c = λ told.
     let opened = c.in-Ok.ensures.opened (c.prepare.ensures.was told) in
     let same = ap (λ (x : BookState). x.shape) c.in-Ok.ensures.read.book in
     let spells = subst (λ (s : Shape). Spells s (records b.entries) (g.D.Disk.seen disk)) (sym same) opened.spells in
-    run_start g.D.Disk.honest g.D.Disk.seen g.D.Disk.images g.D.Disk.moment g.D.Disk.since g.met.D.Disk.only_now (state_of disk b None) told refl
+    run_start g.D.Disk.honest g.D.Disk.seen g.D.Disk.images g.D.Disk.moment g.D.Disk.since g.met.D.Disk.only_now
+    (state_of disk b None) told refl
     (record { synced = opened.synced; spells = spells })
