@@ -1,7 +1,7 @@
 -- The lines of the uploads that were taken.
 use Rattle.std.specs.Prelude.{◌≡◌, ◌⊎◌, ℕ, zero, suc, ◌+◌, ◌<◌, ◌≤◌, nat_lt, Bool, true, false, if◌then◌else◌, List, [], ◌∷◌, ◌++◌, length, take, drop, slice_index_or}
 use Rattle.std.specs.List.{flat_map, enumerate_from, range_with_len}
-use Rattle.std.proofs.Common.{refl, sym, ap, ◌∙◌, subst, arith, inl, inr, zero-add}
+use Rattle.std.proofs.Common.{refl, sym, ap, ◌∙◌, subst, arith, inl, inr, zero-add, length-append}
 use Rattle.std.proofs.Math.ListN.{get_or-eq_default}
 use Rattle.std.proofs.lemmas.Bool.{cases_lt, lt-ltb, le-ltb, ltb-true}
 use Rattle.std.proofs.lemmas.List.{append-nil, take-append-drop, length-take, get_or_default}
@@ -85,6 +85,10 @@ lines_all w counts n text all inside is =
     ∙ sym (flat_map-append f (enumerate_from 0 (take n w.hosts)) (enumerate_from (0 + length (take n w.hosts)) (drop n w.hosts)))
     ∙ ap (flat_map f) (sym (enumerate_from-append 0 (take n w.hosts) (drop n w.hosts)))
     ∙ ap (λ (hs : List HostLine). flat_map f (enumerate_from 0 hs)) (take-append-drop n w.hosts)
+
+-- the host of the last number is declared
+pub counts_low : (w : Scenario) (full : List ℕ) (k m : ℕ) → AreCounts w (full ++ k ∷ []) m → length full < length w.hosts
+counts_low w full k m are = let size = length-append full (k ∷ []) in omega (arith, size, are.last, are.declared)
 
 -- ---- they are those that are acknowledged
 

@@ -15,7 +15,7 @@ use Rattle.guardian_run.specs.Refusals.{status_of, fault_line}
 use Rattle.column_book.specs.Entries.{content_in}
 use Rattle.run_laws.specs.Truth.{IsTrueRun}
 use Rattle.run_laws.proofs.Agreeing.{true_book}
-use Rattle.guardian_run.specs.Outcomes.{Outcome, Runs, Captures, Lists, Rebuilds, Comes, WithScenario, reads_text, looks_at_file}
+use Rattle.guardian_run.specs.Outcomes.{Outcome, Captures, Lists, Rebuilds, Comes, WithScenario, reads_text, looks_at_file}
 use Rattle.guardian_run.specs.Giving.{IsUnread, GivesOfText, IsUnlooked, GivesOfFile, IsFree, IsTrueFile, IsTrueOutput, Draws, Gives}
 use Rattle.report_text.specs.Faults.{usage_line, read_fault_line, disk_fault_line, no_memory_line}
 use Rattle.guardian_run.specs.Ends.{IsOutputEnd, IsStatusOf, IsAnswered, Puts, Ends}
@@ -56,8 +56,7 @@ IsProper refusals.Blank = Unit {0}
 
 -- a command comes to no other refusal
 proper : (command : Command) (said : Result Scenario Fault) (file : List ℕ) (r : Refusal) → Comes (Some command) said file (Err r) → IsProper r
-proper commands.Run (Ok w) file r is = subst IsProper (sym is.1.3) tt
-proper commands.Run (Err (n, why)) file r is = subst IsProper (sym (one_refusal r (refusals.BadScenario n why) is)) tt
+proper commands.Run said file r is = absurd is
 proper commands.Capture (Ok w) file r is = absurd (cc is.1)
 proper commands.Capture (Err (n, why)) file r is = subst IsProper (sym (one_refusal r (refusals.BadScenario n why) is)) tt
 proper commands.Ask (Ok w) file refusals.NotAJournal is = tt
@@ -447,10 +446,6 @@ ends_by items asked command source sink disk s given P same move has is done end
 
 true_file : (file : List ℕ) → IsTrueFile file
 true_file file w rs whole stands agrees = true_book w (content_in rs) whole agrees
-
-pub gives_run : (source : Change) (disk : DiskChange) (o : Outcome) → disk.faults_old ≤ disk.faults_new → GivesOfText Runs source o →
-    Gives (Some commands.Run) source disk o
-gives_run source disk o calm gives = given_text commands.Run Runs source disk o refl (λ said is. is) (λ said is. is) calm gives
 
 pub gives_capture : (source : Change) (disk : DiskChange) (o : Outcome) → disk.faults_old ≤ disk.faults_new → GivesOfText Captures source o →
     Gives (Some commands.Capture) source disk o

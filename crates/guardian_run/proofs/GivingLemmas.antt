@@ -12,7 +12,6 @@ use Rattle.scenario_parts.specs.Whole.{IsWhole}
 use Rattle.scenario_text.specs.Text.{reading, IsTaken, Answers, Took}
 use Rattle.scenario_text.specs.declared.fault.ScenarioFault.{ScenarioFault}
 use Rattle.scenario_text.specs.declared.fault.ScenarioFault.TheVariants as text
-use Rattle.column_book.specs.declared.entry.Entry.{Entry}
 use Rattle.column_book.specs.declared.book.TheConstants.{ROOM}
 use Rattle.column_book.specs.Entries.{BookState, records, content, content_in, known_of}
 use Rattle.flow_query.specs.Rebuilt.{IsRebuilt}
@@ -21,16 +20,14 @@ use Rattle.book_file.specs.declared.found.OpenFault.TheVariants as file
 use Rattle.book_file.specs.Found.{count_of}
 use Rattle.book_journal.specs.Looking.{HasFound, Looks}
 use Rattle.run_laws.specs.Truth.{IsTrueRun, LawOfTrueBooks}
-use Rattle.run_laws.specs.Booking.{booked}
 use Rattle.report_text.specs.Report.{report, columns_line}
 use Rattle.guardian_words.specs.declared.commands.Command.TheVariants as commands
 use Rattle.guardian_run.specs.declared.refusal.Refusal.{Refusal}
 use Rattle.guardian_run.specs.declared.refusal.Refusal.TheVariants as refusals
 use Rattle.guardian_run.specs.Changes.{Change, HasFailed, DiskChange, DiskHasFailed}
-use Rattle.guardian_run.specs.Booking.{IsRefusalOf}
 use Rattle.guardian_run.specs.Refusals.{refusal_of, file_refusal}
 use Rattle.guardian_run.specs.Outputs.{capture_of, list_of, sketch_of}
-use Rattle.guardian_run.specs.Outcomes.{Outcome, Runs, Captures, HasRecords, HasFault, Asks, Lists, Rebuilds, IsUnbuilt, Comes}
+use Rattle.guardian_run.specs.Outcomes.{Outcome, Captures, HasRecords, HasFault, Asks, Lists, Rebuilds, IsUnbuilt, Comes}
 use Rattle.guardian_run.specs.Looking.{IsHeld, IsBookOf, IsFileRefusal, IsUnbuiltOf}
 use Rattle.guardian_run.specs.Giving.{IsFree, GivesOfText, IsUnlooked, GivesOfFile, IsTrueFile, Gives}
 use Rattle.guardian_run.proofs.EndLemmas.{said_by, said_is}
@@ -93,29 +90,8 @@ text_comes next source w o says took whole is truth calm = record {
   truth = truth;
 }
 
--- ---- a booking that is refused
-
-pub run_refused : (source : Change) (w : Scenario) (refusal : Refusal) → IsRefusalOf (booked w) refusal →
-    IfSome source.old (λ input. reading input ≡ Ok w) → IfSome source.old (λ input. IsTaken input source.new) → IsWhole w →
-    source.faults_old ≤ source.faults_new → GivesOfText Runs source (Err refusal)
-run_refused source w (refusals.Full held more) is says took whole calm =
-    text_comes Runs source w (Err (refusals.Full held more)) says took whole (held, more, is, refl) (λ e. cc) calm
-run_refused source w refusals.Memory is says took whole calm = text_memory Runs source calm
-run_refused source w refusals.BadWords is says took whole calm = absurd is
-run_refused source w (refusals.BadScenario n why) is says took whole calm = absurd is
-run_refused source w refusals.ReadFault is says took whole calm = absurd is
-run_refused source w refusals.DiskFault is says took whole calm = absurd is
-run_refused source w refusals.NotAJournal is says took whole calm = absurd is
-run_refused source w (refusals.WrongShape kept asked) is says took whole calm = absurd is
-run_refused source w (refusals.Damaged at) is says took whole calm = absurd is
-run_refused source w (refusals.Missing s e known width) is says took whole calm = absurd is
-run_refused source w refusals.Blank is says took whole calm = absurd is
-
 pub captured : (w : Scenario) (text : List ℕ) → text ≡ capture_of w → Captures w (Ok text)
 captured w text is = ap (λ (t : List ℕ). Ok t) is
-
-pub booked_fine : (w : Scenario) (es : List Entry) → booked w ≡ Ok es → IsOk (booked w)
-booked_fine w es is = subst IsOk (sym is) refl
 
 -- ---- the file
 

@@ -17,7 +17,7 @@ use Rattle.sketchlet_wire.specs.declared.packed.Packed.{Packed}
 use Rattle.sketchlet_wire.specs.Packing.{IsPacked}
 use Rattle.sketchlet_wire.specs.Uploads.{UploadData}
 use Rattle.host_collect.specs.Cutting.{cut, numbered}
-use Rattle.host_collect.specs.Collecting.{CutterData, held_upload, list_of}
+use Rattle.host_collect.specs.Collecting.{CutterData, IsCutter, with_item, upload_with, held_upload, list_of, no_item}
 use Rattle.host_collect.proofs.Items as items
 use Rattle.book_journal.specs.declared.applied.ApplyFault.{ApplyFault}
 use Rattle.book_journal.specs.declared.applied.ApplyFault.TheVariants as faults
@@ -26,9 +26,9 @@ use Rattle.run_laws.specs.Booking.{host_uploads}
 use Rattle.book_laws.specs.Legal.{no_host, host_at, uploads_at}
 use Rattle.book_laws.specs.Turns.{Turn, count_before}
 use Rattle.book_laws.proofs.Uploads.{count_next}
-use Rattle.guardian_run.specs.Storing.{turns_with, host_turns, turns_of, HasTaken, HasStopped, AreCounts}
+use Rattle.guardian_run.specs.Storing.{turns_with, host_turns, turns_of, HasTaken, HasStopped, Keeps, AreCounts}
 use Rattle.guardian_run.proofs.Keeping.{host_more}
-use Rattle.guardian_run.proofs.Taking.{taken_more, stopped_wider, stopped_later, starved_after}
+use Rattle.guardian_run.proofs.Taking.{taken_more, keeps_more, stopped_wider, stopped_later, starved_after}
 
 -- ---- the items of a host
 
@@ -86,10 +86,6 @@ module _ (pass host : ℕ) (arrived : List Packed) (cs : List Column) (all : Mat
         (stopped_wider (turned pass given ++ (pass, u) ∷ []) (turned pass g.0) n old new f
         (stopped_later (turned pass given) ((pass, u) ∷ []) 0 n old now new f taken stopped zero_more))
 
-    pub host_next : (u : UploadData) (new : JournalState D) → HasTaken ((pass, u) ∷ []) now new → HasTaken (turned pass (given ++ u ∷ [])) old new
-    host_next u new next =
-        subst (λ (ts : List Turn). HasTaken ts old new) (sym (turned_more pass given u)) (taken_more (turned pass given) ((pass, u) ∷ []) old now new taken next)
-
     last_turn : (u : UploadData) → length arrived ≤ i → items.Keeps host (take i arrived) given r → held_upload r ≡ Some u →
         turns_with pass host cs ≡ turned pass given ++ (pass, u) ∷ []
     last_turn u end keeps held =
@@ -120,6 +116,61 @@ module _ (pass host : ℕ) (arrived : List Packed) (cs : List Column) (all : Mat
         let is : turns_with pass host cs ≡ turned pass given =
         ap (turned pass) (given_all i given r end keeps ∙ ap (λ (o : Option UploadData). given ++ list_of o) held ∙ append-nil given) in
         (subst (λ (ts : List Turn). HasTaken ts old now) (sym is) taken, sym long ∙ ap length (sym is))
+
+-- ---- what a loop over the items of a host keeps
+
+pub held_some : (r : CutterData) (u : UploadData) → held_upload r ≡ Some u → 1 ≤ length r.held
+held_some r u is = by r.held is
+  where
+    by : (h : List Column) → upload_with r h ≡ Some u → 1 ≤ length h
+    by [] none = absurd (cc none)
+    by (c ∷ h) some = omega arith
+
+module _ {D : Type 0} (honest : D → Type 0) (seen : D → List ℕ) (images : D → List ℕ → Type 0) (moment : D → ℕ) (since : D → ℕ → List ℕ → Type 0)
+    (faults_of : D → ℕ) (pass host : ℕ) where
+  -- the uploads that these items gave were taken, n in all
+  pub record HasCome (front : List Packed) (old now : JournalState D) (n : ℕ) (r : CutterData) : Type 0 where
+    pub given : List UploadData
+    pub cut : items.Keeps host front given r
+    pub sound : IsCutter r
+    pub taken : HasTaken (turned pass given) old now
+    pub whole : now.fault ≡ None
+    pub count : n ≡ length given
+    pub keeps : Keeps honest seen images moment since faults_of old now
+
+  module _ (arrived : List Packed) (i : ℕ) (inside : i < length arrived) (old now : JournalState D) (n : ℕ) (r new_r : CutterData) (o : Option UploadData)
+      (come : HasCome (take i arrived) old now n r)
+      (step : (x : Column) × IsPacked (slice_index_or arrived i no_item) x × (with_item r x ≡ (o, new_r))) (sound : IsCutter new_r) where
+    pub cut_next : (u : UploadData) → o ≡ Some u → items.Keeps host (take (i + 1) arrived) (come.given ++ u ∷ []) new_r
+    cut_next u is =
+        subst (λ (x : Option UploadData). items.Keeps host (take (i + 1) arrived) (come.given ++ list_of x) new_r) is
+        (items.kept_more host arrived i come.given r new_r o inside come.cut step)
+
+    pub come_some : (u : UploadData) (new : JournalState D) (m : ℕ) → o ≡ Some u → HasTaken ((pass, u) ∷ []) now new → new.fault ≡ None → m ≡ n + 1 →
+        Keeps honest seen images moment since faults_of now new → HasCome (take (i + 1) arrived) old new m new_r
+    come_some u new m is next whole count keeps = record {
+      given = come.given ++ u ∷ [];
+      cut = cut_next u is;
+      sound = sound;
+      taken = subst (λ (ts : List Turn). HasTaken ts old new) (sym (turned_more pass come.given u))
+          (taken_more (turned pass come.given) ((pass, u) ∷ []) old now new come.taken next);
+      whole = whole;
+      count = let size = length-append come.given (u ∷ []) in let before = come.count in omega (arith, size, before, count);
+      keeps = keeps_more honest seen images moment since faults_of old now new come.keeps keeps;
+    }
+
+    pub come_none : o ≡ None → HasCome (take (i + 1) arrived) old now n new_r
+    come_none is = record {
+      given = come.given;
+      cut = subst (λ (given : List UploadData). items.Keeps host (take (i + 1) arrived) given new_r)
+          (ap (λ (x : Option UploadData). come.given ++ list_of x) is ∙ append-nil come.given)
+          (items.kept_more host arrived i come.given r new_r o inside come.cut step);
+      sound = sound;
+      taken = come.taken;
+      whole = come.whole;
+      count = come.count;
+      keeps = come.keeps;
+    }
 
 -- ---- host after host
 
@@ -177,6 +228,16 @@ first_count w n host inside here before =
     plus_one : (k : ℕ) → k + 1 ≡ suc k
     plus_one k = omega arith
 
+pub count_more : (w : Scenario) (n k : ℕ) (host : HostLine) → n < length w.hosts → slice_index_or w.hosts n host ≡ host →
+    length (first_turns w n) ≡ count_before w n → k ≡ length (uploads_at w n) → count_before w n + k ≡ length (first_turns w (n + 1))
+count_more w n k host inside here before own =
+    let all = first_count w n host inside here before in
+    let next : count_before w (n + 1) ≡ count_before w n + length (uploads_at w n) = ap (count_before w) (plus_one n) ∙ count_next w n inside in
+    omega (arith, all, next, own)
+  where
+    plus_one : (k : ℕ) → k + 1 ≡ suc k
+    plus_one k = omega arith
+
 -- ---- the numbers of taken uploads
 
 -- these hosts have so many each
@@ -187,7 +248,7 @@ pub record AreFull (w : Scenario) (full : List ℕ) (n : ℕ) : Type 0 where
 pub full_none : (w : Scenario) (full : List ℕ) → full ≡ [] → AreFull w full 0
 full_none w full none = record { many = ap length none; each = λ h low. absurd (omega (arith, low)) }
 
-left_at : (full : List ℕ) (k h : ℕ) → h < length full → slice_index_or (full ++ k ∷ []) h 0 ≡ slice_index_or full h 0
+pub left_at : (full : List ℕ) (k h : ℕ) → h < length full → slice_index_or (full ++ k ∷ []) h 0 ≡ slice_index_or full h 0
 left_at [] k h low = absurd (omega (arith, low))
 left_at (x ∷ full) k zero low = refl
 left_at (x ∷ full) k (suc h) low = left_at full k h (omega (arith, low))
@@ -196,7 +257,7 @@ last_at : (full : List ℕ) (k : ℕ) → slice_index_or (full ++ k ∷ []) (len
 last_at [] k = refl
 last_at (x ∷ full) k = last_at full k
 
-last_of : (full : List ℕ) (k n : ℕ) → length full ≡ n → slice_index_or (full ++ k ∷ []) n 0 ≡ k
+pub last_of : (full : List ℕ) (k n : ℕ) → length full ≡ n → slice_index_or (full ++ k ∷ []) n 0 ≡ k
 last_of full k n many = ap (λ i. slice_index_or (full ++ k ∷ []) i 0) (sym many) ∙ last_at full k
 
 pub full_more : (w : Scenario) (full new : List ℕ) (n k : ℕ) → AreFull w full n → k ≡ length (uploads_at w n) → new ≡ full ++ k ∷ [] → AreFull w new (n + 1)

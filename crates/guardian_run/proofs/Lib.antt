@@ -7,3 +7,5 @@ pub mod Taking
 pub mod HostTurns
 pub mod AckedLines
 pub mod Told
+pub mod Left
+pub mod RunEnding

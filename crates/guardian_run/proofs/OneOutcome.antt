@@ -11,12 +11,8 @@ use Rattle.sketchlet_wire.specs.Uploads.{UploadData}
 use Rattle.sumax_sketch.specs.SketchState.{SketchState}
 use Rattle.scenario_text.specs.Text.{Fault}
 use Rattle.column_book.specs.declared.book.TheConstants.{ROOM}
-use Rattle.column_book.specs.declared.entry.Entry.{Entry}
-use Rattle.column_book.specs.declared.fault.BookFault.{BookFault}
-use Rattle.column_book.specs.declared.fault.BookFault.TheVariants as book
 use Rattle.column_book.specs.Entries.{content_in}
 use Rattle.flow_query.specs.Rebuilt.{IsRebuilt}
-use Rattle.run_laws.specs.Booking.{booked}
 use Rattle.run_laws.proofs.Agreeing.{one_table}
 use Rattle.report_text.specs.Report.{report}
 use Rattle.book_file.specs.declared.found.OpenFault.{OpenFault}
@@ -33,7 +29,7 @@ use Rattle.guardian_run.specs.declared.refusal.Refusal.{Refusal}
 use Rattle.guardian_run.specs.declared.refusal.Refusal.TheVariants as refusals
 use Rattle.guardian_run.specs.Refusals.{file_refusal}
 use Rattle.guardian_run.specs.Outputs.{list_of, sketch_of}
-use Rattle.guardian_run.specs.Outcomes.{Outcome, Runs, HasRecords, HasFault, Asks, Lists, IsRebuilding, IsMissing, IsUnbuilt, Rebuilds, WithScenario, LawOfOutcomes, known_in}
+use Rattle.guardian_run.specs.Outcomes.{Outcome, HasRecords, HasFault, Asks, Lists, IsRebuilding, IsMissing, IsUnbuilt, Rebuilds, WithScenario, LawOfOutcomes, known_in}
 
 -- ---- a refused file
 
@@ -71,7 +67,7 @@ one_fault asked file r q this that =
     (λ e. b.told (one_error b.fault faults.Memory e)) in
     a.is ∙ ap file_refusal (one_error a.fault b.fault same) ∙ sym b.is
 
-no_fault : (asked : Option Shape) (file : List ℕ) (shape : Shape) (rs : List UploadData) (r : Refusal) → Suits asked shape → HasRecords file shape rs →
+pub no_fault : (asked : Option Shape) (file : List ℕ) (shape : Shape) (rs : List UploadData) (r : Refusal) → Suits asked shape → HasRecords file shape rs →
     HasFault asked file r → ⊥
 no_fault asked file shape rs r suits has this =
     let a = fault_of asked file r this in
@@ -175,23 +171,6 @@ never_built s e file text r this (faulty f that) = no_fault None file this.shape
 
 -- ---- command by command
 
-abbrev unbooked : BookFault → Result (List Entry) BookFault
-unbooked f = Err f
-
-booked_both : (r : Result (List Entry) BookFault) (held more : ℕ) → IsOk r → r ≡ Err (book.Full held more) → ⊥
-booked_both (Ok es) held more fine is = absurd (cc is)
-booked_both (Err f) held more fine is = absurd (cc fine)
-
-one_run : (w : Scenario) (a b : Outcome) → Runs w a → Runs w b → a ≡ b
-one_run w (Ok x) (Ok y) this that = ap (λ (t : List ℕ). Ok t) (this.1 ∙ sym that.1)
-one_run w (Ok x) (Err q) this that = absurd (booked_both (booked w) that.0 that.1 this.0 that.2)
-one_run w (Err r) (Ok y) this that = absurd (booked_both (booked w) this.0 this.1 that.0 this.2)
-one_run w (Err r) (Err q) this that =
-    ap (λ (x : Refusal). Err x) (this.3 ∙ same_counts this.0 this.1 that.0 that.1 (sym this.2 ∙ that.2) ∙ sym that.3)
-  where
-    same_counts : (h m k n : ℕ) → unbooked (book.Full h m) ≡ unbooked (book.Full k n) → refusals.Full h m ≡ refusals.Full k n
-    same_counts h m k n is = cc
-
 one_ask : (file : List ℕ) (w : Scenario) (a b : Outcome) → Asks file w a → Asks file w b → a ≡ b
 one_ask file w (Ok x) (Ok y) this that =
     ap (λ (t : List ℕ). Ok t) (this.is ∙ ap (λ (rs : List UploadData). report (content_in rs) w) (one_list file w.shape this.rs that.rs this.has.stands that.has.stands)
@@ -221,7 +200,7 @@ one_of_text next (Err (n, why)) a b one this that = this ∙ sym that
 
 pub one_outcome : LawOfOutcomes
 one_outcome None said file a b this that = this ∙ sym that
-one_outcome (Some commands.Run) said file a b this that = one_of_text Runs said a b one_run this that
+one_outcome (Some commands.Run) said file a b this that = absurd this
 one_outcome (Some commands.Capture) said file a b this that = one_of_text _ said a b (λ w x y p q. p ∙ sym q) this that
 one_outcome (Some commands.Ask) said file a b this that = one_of_text (Asks file) said a b (one_ask file) this that
 one_outcome (Some commands.List) said file a b this that = one_list_outcome file a b this that

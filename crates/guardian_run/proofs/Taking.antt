@@ -1,5 +1,5 @@
 -- Turns that a journal takes one after the other.
-use Rattle.std.specs.Prelude.{◌≡◌, ◌⊎◌, ℕ, ◌+◌, ◌<◌, ◌≤◌, List, [], ◌∷◌, ◌++◌, map, length, fold, Option, None, Some, IsSome, Result, Ok, Err, min, ◌-◌, ◌^◌}
+use Rattle.std.specs.Prelude.{◌≡◌, ◌⊎◌, ℕ, ◌+◌, ◌<◌, ◌≤◌, List, [], ◌∷◌, ◌++◌, map, length, fold, Option, None, Some, IsSome, IfOk, IfErr, Result, Ok, Err, min, ◌-◌, ◌^◌}
 use Rattle.std.specs.List.{flat_map, enumerate_from}
 use Rattle.std.proofs.Common.{refl, sym, ap, ◌∙◌, subst, arith, append_assoc, length-append}
 use Rattle.std.proofs.lemmas.List.{append-nil, map-append, length-map}
@@ -26,6 +26,18 @@ use Rattle.run_laws.specs.Booking.{host_uploads, uploads_of, booked_by}
 use Rattle.book_laws.specs.Turns.{Turn, uploads_in, with_turn, applied, HasApplied}
 use Rattle.book_laws.proofs.Turns.{stored_is}
 use Rattle.guardian_run.specs.Storing.{host_turns, turns_of, HasTaken, IsRefusedNext, IsBrokenNext, IsStop, HasStopped, Keeps}
+
+-- what a `?` hands on
+pub err_so : {T F : Type 0} → (r : Result T F) (y f : F) (P : F → Type 0) → r ≡ Err y → y ≡ f → P f → IfErr r P
+err_so {T} {F} r y f P is same holds = subst (λ (x : Result T F). IfErr x P) (sym is) (subst P (sym same) holds)
+
+pub err_any : {T F : Type 0} → (r : Result T F) (P : Type 0) → P → IfErr r (λ _. P)
+err_any (Ok x) P holds = tt
+err_any (Err f) P holds = holds
+
+pub ok_so : {T F : Type 0} → (r : Result T F) (P Q : T → Type 0) → ((x : T) → P x → Q x) → IfOk r P → IfOk r Q
+ok_so (Ok x) P Q move holds = move x holds
+ok_so (Err f) P Q move holds = tt
 
 -- ---- one part after the other
 
@@ -88,6 +100,14 @@ stopped_later ts us n m a b c f first s sum = record {
   taken = taken_more ts s.front a b c first s.taken;
   stop = s.stop;
 }
+
+-- no more than all are taken
+pub stopped_few : {D : Type 0} → (ts : List Turn) (n : ℕ) (a b : JournalState D) (f : ApplyFault) → HasStopped ts n a b f → n ≤ length ts
+stopped_few ts n a b f s =
+    let size = ap length s.split in
+    let parts = length-append s.front s.rest in
+    let each = s.count in
+    omega (arith, size, parts, each)
 
 -- memory ran out after these
 pub starved_after : {D : Type 0} → (ts us : List Turn) (n : ℕ) (a b : JournalState D) → HasTaken ts a b → b.fault ≡ None → length ts ≡ n →

@@ -126,11 +126,13 @@ pub(crate) fn store_all<D: Disk>(
 {
     let hosts = scenario.hosts();
     for at in 0..hosts.len() {
+        let host = &hosts[at];
         let arrived = arrivals.arrived(at as u16);
         let pass = at as u32 + 1;
-        store_host(alloc, hosts[at].name, pass, arrived, journal, &mut progress.taken)?;
-        if progress.full.push(progress.taken).is_err() {
-            return Err(ApplyFault::Memory);
+        store_host(alloc, host.name, pass, arrived, journal, &mut progress.taken)?;
+        match progress.full.push(progress.taken) {
+            Ok(()) => {}
+            Err(_) => return Err(ApplyFault::Memory),
         }
         progress.taken = 0;
     }

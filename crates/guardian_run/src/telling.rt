@@ -1,8 +1,11 @@
 //! What a run tells: the report on the journal's book, or which uploads were taken before one was refused.
-ghost use Rattle.std.specs.Prelude.{◌≡◌, ◌++◌, ℕ, None, IfOk, IfErr};
+ghost use Rattle.std.specs.Prelude.{◌≡◌, ◌<◌, ◌++◌, ℕ, length, None, IfOk, IfErr};
 ghost use Rattle.std.specs.List.{flat_map, range_with_len};
 ghost use Rattle.lg_base.specs.Causes.{Rose};
+ghost use Rattle.scenario_parts.specs.Whole.{IsWhole};
 ghost use Rattle.column_book.specs.declared.book.TheConstants.{ROOM};
+ghost use Rattle.column_book.specs.Entries.{records};
+ghost use Rattle.book_laws.specs.Keeping.{HasKeysOnce};
 ghost use Rattle.report_text.specs.Columns as lines;
 ghost use Rattle.report_text.specs.Faults.{no_memory_line};
 ghost use Rattle.guardian_run.specs.declared.status.Status.TheVariants.{NoMemory};
@@ -46,16 +49,20 @@ fn put_acked(text: &mut Vec<u8>, host: u16, count: u32) -> Result<(), Memory>
 
 // The lines of the uploads that were taken.
 fn acked_text(alloc: Global, scenario: &Scenario, progress: &Progress) -> Result<Vec<u8>, Memory>
-    requires { (n : ℕ) × AreCounts scenario.now (counts_of progress.now) n }
+    requires low { length progress.now.full.items < length scenario.now.hosts }
+    requires counts { (n : ℕ) × AreCounts scenario.now (counts_of progress.now) n }
     ensures { IfOk result (λ text. text.items ≡ acked_lines scenario.now (acks_of (counts_of progress.now))) }
 {
     let mut text = Vec::new(alloc);
     let hosts = scenario.hosts();
-    let last = progress.full.len();
+    let full = progress.full.as_slice();
+    let last = full.len();
     for at in 0..last {
-        put_acked(&mut text, hosts[at].name, progress.full[at])?;
+        let host = &hosts[at];
+        put_acked(&mut text, host.name, full[at])?;
     }
-    put_acked(&mut text, hosts[last].name, progress.taken)?;
+    let host = &hosts[last];
+    put_acked(&mut text, host.name, progress.taken)?;
     Ok(text)
 }
 
@@ -99,9 +106,11 @@ pub(crate) fn tell<D: Disk>(
     scenario: &Scenario,
     journal: &mut Journal<D>,
 ) -> Result<Told, Memory>
+    requires fits { IsWhole scenario.now }
     requires shape { journal.old.shape ≡ scenario.now.shape }
     requires room { journal.old.room ≡ ROOM }
     requires whole { journal.old.fault ≡ None }
+    requires once { HasKeysOnce (records journal.old.entries) }
     ensures told { IfOk result (λ told. HasRun (Rose (D.faults journal.old.disk) (D.faults journal.new.disk)) scenario.now
         journal.old journal.new (status_told told) (text_told told)) }
     ensures starved { IfErr result (λ _. HasRun (Rose (D.faults journal.old.disk) (D.faults journal.new.disk)) scenario.now
