@@ -19,7 +19,7 @@ use Rattle.lock_rule.specs.Views.{of, HasTurn, ticket, tickets, new_pass, parted
 use Rattle.lock_rule.specs.Rules.{LockState, SomePass, SomeJoined, FitsDoing, FitsMark, Fits, FitsJoined, FitsView, IsNumber, Carried, Lies, Locked}
 use Rattle.lock_rule.specs.Plays.{gained}
 use Rattle.lock_rule.proofs.Fronts.{prefix_self, prefix_trans, prefix_whole, prefix_length, of_between, longest}
-use Rattle.lock_rule.proofs.Totals.{total_set, total_more, total_two}
+use Rattle.lock_rule.proofs.Totals.{total_one, total_set, total_more, total_two}
 use Rattle.lock_rule.proofs.Staying.{put, put_here, put_else, at_end, true_or_false, some_or_none, some_stays, some_else, some_more, some_last, joined_more, joined_here, views_stay, fits_stay, is_number_stays, carried_stays, faulty, no_ticket, no_turn, some_or}
 use Rattle.lock_rule.specs.Closing.{Closes}
 
@@ -341,6 +341,7 @@ module _ {J : Type 0} (entries : J → List Entry) (fault : J → Option Entry) 
       let next : List Entry = longer v.seen p.seen in
       let w : View = record v { seen = next } in
       let same = of_between v.number v.seen next g.list long.first long.whole was.mine in
+      let few : length v.joined ≤ 64 = let a = one_head v alive in let b = total_one heads s.views id v at in let c = r.counted in let d = r.most in omega arith in
       let order = r.order in let waiting = r.waiting in let counts = r.drawn in let c = r.counted in
       let wait = total_set tickets s.views id v w at in
       let call = total_set calls s.views id v w at in
@@ -382,8 +383,8 @@ module _ {J : Type 0} (entries : J → List Entry) (fault : J → Option Entry) 
           counted = omega arith;
           most = r.most;
         }),
-        λ q qs e. subst (λ (x : Joined). (record v { seen = next } ≡ record v { seen = longer v.seen x.seen }) × (me.1 ≡ me.1) × IsPrefix v.seen next × IsPrefix x.seen next × (of v.number next ≡ of v.number v.seen))
-            (ap (first_of p) (sym is ∙ e)) (refl, refl, long.first, long.second, same),
+        λ q qs e. subst (λ (x : Joined). (record v { seen = next } ≡ record v { seen = longer v.seen x.seen }) × (me.1 ≡ me.1) × IsPrefix v.seen next × IsPrefix x.seen next × (of v.number next ≡ of v.number v.seen) × (length v.joined ≤ 64))
+            (ap (first_of p) (sym is ∙ e)) (refl, refl, long.first, long.second, same, few),
       )
 
   -- the journal at the end

@@ -1,5 +1,5 @@
 -- What each step at the lock tells the pass that takes it.
-use Rattle.std.specs.Prelude.{◌≡◌, ◌≢◌, ℕ, ◌+◌, ◌<◌, ◌≤◌, List, [], ◌∷◌, Option, None, Some}
+use Rattle.std.specs.Prelude.{◌≡◌, ◌≢◌, ℕ, ◌+◌, ◌<◌, ◌≤◌, List, [], ◌∷◌, length, Option, None, Some}
 use mathlib.Core.List.{IsPrefix}
 use Rattle.atomic_table.specs.Table.{Me, Step, rest}
 use Rattle.column_book.specs.declared.entry.Entry.{Entry}
@@ -86,8 +86,9 @@ module _ {J : Type 0} (entries : J → List Entry) (fault : J → Option Entry) 
   passed st m n m' = (t : ℕ) (l : List Entry) (f : Option Entry) → m.0.doing ≡ Has t l f
       → (m'.0 ≡ record m.0 { doing = Idle; seen = l }) × (m'.1 ≡ rest m.1)
 
-  -- Join, in its second step: the seen list becomes the longer one, which begins with both.
+  -- Join, in its second step: the seen list becomes the longer one, which begins with both; few passes were joined.
   abbrev pub gained : At → Knows → ℕ → Knows → Type 0
   gained st m n m' = (p : Joined) (ps : List Joined) → m.0.joined ≡ p ∷ ps
       → (m'.0 ≡ record m.0 { seen = longer m.0.seen p.seen }) × (m'.1 ≡ m.1)
       × IsPrefix m.0.seen m'.0.seen × IsPrefix p.seen m'.0.seen × (of m.0.number m'.0.seen ≡ of m.0.number m.0.seen)
+      × (length m.0.joined ≤ 64)
