@@ -1,3 +1,5 @@
 pub mod Replies
 pub mod Turning
 pub mod Closing
+pub mod Keeping
+pub mod Crossing

@@ -96,3 +96,12 @@ pub record Joins (v other w : View) : Type 0 where
   pub mine : IsPrefix v.seen w.seen
   pub theirs : IsPrefix other.seen w.seen
   pub own : of v.number w.seen ≡ of v.number v.seen
+
+-- What a call keeps of a pass: its number, and how many passes were made and which were joined. What it had seen begins
+-- what it has seen, and it began one call more or none.
+pub record Keeps (v w : View) : Type 0 where
+  pub number : w.number ≡ v.number
+  pub made : w.made ≡ v.made
+  pub joined : w.joined ≡ v.joined
+  pub seen : IsPrefix v.seen w.seen
+  pub begun : w.begun ≤ v.begun + 1

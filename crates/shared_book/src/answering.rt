@@ -2,6 +2,7 @@
 ghost use Rattle.std.specs.Prelude.{◌≡◌, ◌<◌};
 ghost use Rattle.lock_rule.specs.Views.{most_calls};
 ghost use Rattle.shared_book.specs.Answering.{IsAnswer};
+ghost use Rattle.shared_book.specs.Passes.{Keeps};
 
 use crate::book::SharedBook;
 use crate::pass::Pass;
@@ -23,6 +24,7 @@ pub fn answer<D: Disk, R: Wait>(
     requires book { pass.old.book ≡ book.now.id }
     requires left { pass.old.view.begun < most_calls }
     ensures book { pass.new.book ≡ pass.old.book }
+    ensures keeps { Keeps pass.old.view pass.new.view }
     ensures answers { IsAnswer book.now.first.shape book.now.first.room frame.now pass.old.view pass.new.view result }
 {
     match frame {

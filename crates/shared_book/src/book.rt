@@ -4,7 +4,7 @@ ghost use Rattle.lock_rule.specs.Closing.{Closes};
 ghost use Rattle.lock_rule.specs.declared.view.Doing.TheVariants.{Idle};
 ghost use Rattle.lock_rule.specs.Views.{most_calls, given, new_pass, parted};
 ghost use Rattle.shared_book.specs.Going.{GoesOn};
-ghost use Rattle.shared_book.specs.Passes.{Joins, Serves};
+ghost use Rattle.shared_book.specs.Passes.{Joins, Keeps, Serves};
 
 use crate::pass::Pass;
 use crate::turns::{Part, Place, Turns, pass_on, serve, take_first, take_in};
@@ -120,7 +120,7 @@ impl<D: Disk> SharedBook<D> {
         requires book { pass.old.book ≡ self.now.id }
         requires left { pass.old.view.begun < most_calls }
         ensures book { pass.new.book ≡ pass.old.book }
-        ensures number { pass.new.view.number ≡ pass.old.view.number }
+        ensures keeps { Keeps pass.old.view pass.new.view }
         ensures serves { Serves self.now.first.shape self.now.first.room upload.now pass.old.view pass.new.view result }
     {
         let mut seat: Place<D> = mem::replace(&mut pass.badge, Badge::blank()).into_seat();

@@ -9,7 +9,7 @@ ghost use Rattle.lock_rule.specs.declared.view.Doing.TheVariants.{Idle, Drew, Ha
 ghost use Rattle.lock_rule.specs.Plays.{drew, looked, committed, broke, passed, gained, mark_after};
 ghost use Rattle.lock_rule.specs.Views.{most_calls, with_joined, parted, given, spent};
 ghost use Rattle.shared_book.specs.Going.{GoesOn, GoesFrom};
-ghost use Rattle.shared_book.specs.Passes.{Serves, Joins, seen_after, mark_for};
+ghost use Rattle.shared_book.specs.Passes.{Joins, Keeps, Serves, seen_after, mark_for};
 ghost use Rattle.shared_book.specs.Steps.{IsAt, IsSameSeat, StoredFew, Taken, after_turn, found_by, resting};
 
 use atomic_table::{Join, Play, Seat, Shared, Split, TableRule};
@@ -284,6 +284,7 @@ pub(crate) fn serve<D: Disk, R: Wait>(
     requires hand { seat.old.me.1 ≡ [] }
     ensures same { IsSameSeat seat.old seat.new }
     ensures hand { seat.new.me.1 ≡ [] }
+    ensures keeps { Keeps seat.old.me.0 seat.new.me.0 }
     ensures serves { Serves top.now.key.value.shape top.now.key.value.room upload.now
         seat.old.me.0 seat.new.me.0 result }
 {

@@ -1,5 +1,6 @@
-use Rattle.std.proofs.Common.{sym, ap, ◌∙◌, subst}
+use Rattle.std.proofs.Common.{rules, sym, ap, ◌∙◌, subst}
 use Rattle.book_journal.specs.Applying.{Answers}
+use Rattle.shared_book.proofs.Keeping.{keeps}
 use Rattle.shared_book.proofs.Turning.{goes_on, taken_here}
 use Rattle.shared_book.proofs.turns.serve.Goals as goal
 
@@ -20,3 +21,9 @@ end_turn-requires-clause-goes g c =
     let did = c.apply-answer.ensures in
     goes_on g.D.Disk.honest g.D.Disk.seen g.D.Disk.images g.D.Disk.moment g.D.Disk.since g.D.Disk.faults c.args.number c.args.upload.now c.args.top.now.key.value c.in-Some.journal c.apply-answer.new.self c.apply-answer.result
         here.1 did.applies.answers did.still did.was did.never_falls did.cause did.applies.runs
+
+pub returns-clause-serves : goal.returns-clause-serves
+returns-clause-serves g c = search rules
+
+pub returns-clause-keeps : goal.returns-clause-keeps
+returns-clause-keeps g c = keeps _ _ _ _ _ _ (returns-clause-serves g c)
