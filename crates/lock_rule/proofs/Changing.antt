@@ -60,72 +60,75 @@ module _ {J : Type 0} (entries : J → List Entry) (fault : J → Option Entry) 
         w,
         keeps,
         tt,
-        (g', record {
-          words = ap (λ (ws : List ℕ). set ws 2 ((slice_index ws 2 + 1) % 2 ^ 64)) r.words
-              ∙ ap (λ (m : ℕ). g.drawn ∷ g.serving ∷ m ∷ flag_of g.fault ∷ []) (let m : (length g.list + 1) % 18446744073709551616 ≡ length next = omega arith in m);
-          homes = r.homes;
-          order = r.order;
-          waiting = omega arith;
-          held = λ u a b. some_stays (λ (x : View). ticket x.doing ≡ Some u) s.views id v w at alive (λ q. sym (ap ticket is) ∙ q) (r.held u a b);
-          home = λ o q. absurd (some-ne-none o (sym (sym mine.4 ∙ q)));
-          away = λ q. some_stays (λ (x : View). HasTurn x.doing) s.views id v w at alive (λ _. tt) (r.away q);
-          views = fits_stay first g g' s.views id v w at was alive
-              record {
-                doing = (mine.0, mine.1, mine.2, refl, mine.4, mine.5);
-                seen = prefix_self next;
-                from = begins;
-                mine = refl;
-                owned = was.owned;
-                alive = was.alive;
-                low = was.low;
-                high = was.high;
-                head = was.head;
-                tail = was.tail;
-                few = was.few;
-                mark = was.mark;
-                still = λ k _. absurd (unmarked g v.number v.mark whole was.mark k);
-              }
-              (λ i x m o f. record {
-                doing = other_doing g next g.fault g.carrier id i x.doing m here f.doing;
-                seen = prefix_trans x.seen g.list next f.seen more;
-                from = f.from;
-                mine = kept x.number (λ q. o (sym q ∙ own)) ∙ f.mine;
-                owned = f.owned;
-                alive = f.alive;
-                low = f.low;
-                high = f.high;
-                head = f.head;
-                tail = f.tail;
-                few = f.few;
-                mark = f.mark;
-                still = λ k _. absurd (unmarked g x.number x.mark whole f.mark k);
-              }) r.views;
-          joined = λ k p q. let f = r.joined k p q in record {
-            seen = prefix_trans p.seen g.list next f.seen more;
-            from = f.from;
-            mine = kept p.number (λ z. true_or_false (g.lives p.number) (ap g.lives (sym z ∙ own) ∙ was.alive) f.dead) ∙ f.mine;
-            at = f.at;
-            dead = f.dead;
-            low = f.low;
-            high = f.high;
-            few = f.few;
-            mark = f.mark;
-            still = λ z. absurd (unmarked g p.number p.mark whole f.mark z);
-          };
-          numbers = λ m a b. is_number_stays g g' s.views id v w at alive refl refl m (r.numbers m a b);
-          begins = begins;
-          strangers = λ n k. let a = was.low in let b = was.high in
-              kept n (λ q. ⊎_elim (λ (z : n ≡ 0). let y : v.number ≡ 0 = sym own ∙ (q ∙ z) in omega arith) (λ (z : g.made < n). let y : v.number ≡ n = sym own ∙ q in omega arith) k) ∙ r.strangers n k;
-          carried = λ d k. absurd (some_or_none d (sym whole ∙ k));
-          drawn = omega arith;
-          counted = omega arith;
-          most = r.most;
-        }),
+        (
+          g',
+          record {
+            words = ap (λ (ws : List ℕ). set ws 2 ((slice_index ws 2 + 1) % 2 ^ 64)) r.words
+                ∙ ap (λ (m : ℕ). g.drawn ∷ g.serving ∷ m ∷ flag_of g.fault ∷ []) (let m : (length g.list + 1) % 18446744073709551616 ≡ length next = omega arith in m);
+            homes = r.homes;
+            order = r.order;
+            waiting = omega arith;
+            held = λ u a b. some_stays (λ (x : View). ticket x.doing ≡ Some u) s.views id v w at alive (λ q. sym (ap ticket is) ∙ q) (r.held u a b);
+            home = λ o q. absurd (some-ne-none o (sym (sym mine.4 ∙ q)));
+            away = λ q. some_stays (λ (x : View). HasTurn x.doing) s.views id v w at alive (λ _. tt) (r.away q);
+            views = fits_stay first g g' s.views id v w at was alive
+                record {
+                  doing = (mine.0, mine.1, mine.2, refl, mine.4, mine.5);
+                  seen = prefix_self next;
+                  from = begins;
+                  mine = refl;
+                  owned = was.owned;
+                  alive = was.alive;
+                  low = was.low;
+                  high = was.high;
+                  head = was.head;
+                  tail = was.tail;
+                  few = was.few;
+                  mark = was.mark;
+                  still = λ k _. absurd (unmarked g v.number v.mark whole was.mark k);
+                }
+                (λ i x m o f. record {
+                  doing = other_doing g next g.fault g.carrier id i x.doing m here f.doing;
+                  seen = prefix_trans x.seen g.list next f.seen more;
+                  from = f.from;
+                  mine = kept x.number (λ q. o (sym q ∙ own)) ∙ f.mine;
+                  owned = f.owned;
+                  alive = f.alive;
+                  low = f.low;
+                  high = f.high;
+                  head = f.head;
+                  tail = f.tail;
+                  few = f.few;
+                  mark = f.mark;
+                  still = λ k _. absurd (unmarked g x.number x.mark whole f.mark k);
+                }) r.views;
+            joined = λ k p q. let f = r.joined k p q in record {
+              seen = prefix_trans p.seen g.list next f.seen more;
+              from = f.from;
+              mine = kept p.number (λ z. true_or_false (g.lives p.number) (ap g.lives (sym z ∙ own) ∙ was.alive) f.dead) ∙ f.mine;
+              at = f.at;
+              dead = f.dead;
+              low = f.low;
+              high = f.high;
+              few = f.few;
+              mark = f.mark;
+              still = λ z. absurd (unmarked g p.number p.mark whole f.mark z);
+            };
+            numbers = λ m a b. is_number_stays g g' s.views id v w at alive refl refl m (r.numbers m a b);
+            begins = begins;
+            strangers = λ n k. let a = was.low in let b = was.high in
+                kept n (λ q. ⊎_elim (λ (z : n ≡ 0). let y : v.number ≡ 0 = sym own ∙ (q ∙ z) in omega arith) (λ (z : g.made < n). let y : v.number ≡ n = sym own ∙ q in omega arith) k) ∙ r.strangers n k;
+            carried = λ d k. absurd (some_or_none d (sym whole ∙ k));
+            drawn = omega arith;
+            counted = omega arith;
+            most = r.most;
+          },
+        ),
         λ t' l' f' q.
-          let held : entries_held entries fault run me.1 ≡ next = ap (entries_held entries fault run) carried ∙ listed in
-          let a : t ≡ t' = ap (turn_of 0) (sym is ∙ q) in
-          let c : None ≡ f' = ap (fault_of None) (sym is ∙ q) in
-          ((λ i. record v { doing = Has (a i) (sym held i) (c i); seen = sym held i }), refl),
+            let held : entries_held entries fault run me.1 ≡ next = ap (entries_held entries fault run) carried ∙ listed in
+            let a : t ≡ t' = ap (turn_of 0) (sym is ∙ q) in
+            let c : None ≡ f' = ap (fault_of None) (sym is ∙ q) in
+            ((λ i. record v { doing = Has (a i) (sym held i) (c i); seen = sym held i }), refl),
       )
 
   pub marks : (slots id : ℕ) (me : Me (Option J) View) (t : ℕ) (l : List Entry) (f : Option Entry) (e : Entry) (j : J) → me.0.live ≡ true → me.0.doing ≡ Has t l f → me.1 ≡ (0, Some j) ∷ []
@@ -140,16 +143,18 @@ module _ {J : Type 0} (entries : J → List Entry) (fault : J → Option Entry) 
       let hand : fault_held entries fault run me.1 ≡ Some e = ap (fault_held entries fault run) carried ∙ faulted in
       ⊎_elim
       (λ (none_yet : f ≡ None).
-        let whole : g.fault ≡ None = sym mine.5 ∙ none_yet in
-        let w : View = record v { doing = Has t l (Some e); mark = Carries e } in
-        let g' : LockState J = record g { fault = Some e; carrier = v.number } in
-        let wait = total_set tickets s.views id v w at in
-        let call = total_set calls s.views id v w at in
-        let head = total_set heads s.views id v w at in (
-          w,
-          keeps,
-          tt,
-          (g', record {
+      let whole : g.fault ≡ None = sym mine.5 ∙ none_yet in
+      let w : View = record v { doing = Has t l (Some e); mark = Carries e } in
+      let g' : LockState J = record g { fault = Some e; carrier = v.number } in
+      let wait = total_set tickets s.views id v w at in
+      let call = total_set calls s.views id v w at in
+      let head = total_set heads s.views id v w at in (
+        w,
+        keeps,
+        tt,
+        (
+          g',
+          record {
             words = ap (λ (ws : List ℕ). set ws 3 1) r.words;
             homes = r.homes;
             order = r.order;
@@ -207,23 +212,26 @@ module _ {J : Type 0} (entries : J → List Entry) (fault : J → Option Entry) 
             drawn = omega arith;
             counted = omega arith;
             most = r.most;
-          }),
-          λ t' l' f' q.
+          },
+        ),
+        λ t' l' f' q.
             let a : t ≡ t' = ap (turn_of 0) (sym is ∙ q) in
             let b : l ≡ l' = ap (list_of []) (sym is ∙ q) in
             let c : None ≡ f' = sym none_yet ∙ ap (fault_of None) (sym is ∙ q) in
             ((λ i. record v { doing = Has (a i) (b i) (sym hand i); mark = mark_after (c i) (sym hand i) v.mark }), refl),
-        ))
+      ))
       (λ (found : f ≡ Some e).
-        let broken : g.fault ≡ Some e = sym mine.5 ∙ found in
-        let w : View = record v { doing = Has t l (Some e); mark = set_mark v.mark } in
-        let wait = total_set tickets s.views id v w at in
-        let call = total_set calls s.views id v w at in
-        let head = total_set heads s.views id v w at in (
-          w,
-          keeps,
-          tt,
-          (g, record {
+      let broken : g.fault ≡ Some e = sym mine.5 ∙ found in
+      let w : View = record v { doing = Has t l (Some e); mark = set_mark v.mark } in
+      let wait = total_set tickets s.views id v w at in
+      let call = total_set calls s.views id v w at in
+      let head = total_set heads s.views id v w at in (
+        w,
+        keeps,
+        tt,
+        (
+          g,
+          record {
             words = ap (λ (ws : List ℕ). set ws 3 1) r.words ∙ ap (λ (m : ℕ). g.drawn ∷ g.serving ∷ length g.list ∷ m ∷ []) (sym (ap flag_of broken));
             homes = r.homes;
             order = r.order;
@@ -256,13 +264,14 @@ module _ {J : Type 0} (entries : J → List Entry) (fault : J → Option Entry) 
             drawn = omega arith;
             counted = omega arith;
             most = r.most;
-          }),
-          λ t' l' f' q.
+          },
+        ),
+        λ t' l' f' q.
             let a : t ≡ t' = ap (turn_of 0) (sym is ∙ q) in
             let b : l ≡ l' = ap (list_of []) (sym is ∙ q) in
             let c : Some e ≡ f' = sym found ∙ ap (fault_of None) (sym is ∙ q) in
             ((λ i. record v { doing = Has (a i) (b i) (sym hand i); mark = mark_after (c i) (sym hand i) v.mark }), refl),
-        ))
+      ))
       which
     where
       carries_or : Option Entry → Mark

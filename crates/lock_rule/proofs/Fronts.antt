@@ -55,7 +55,7 @@ of_other n es e other = of_more n es (e ∷ []) ∙ (ap (λ (b : Bool). of n es 
 pub of_between : (n : ℕ) (xs ys zs : List Entry) → IsPrefix xs ys → IsPrefix ys zs → of n zs ≡ of n xs → of n ys ≡ of n xs
 of_between n xs ys zs p q e =
     let long : of n zs ≡ (of n xs ++ of n p.0) ++ of n q.0 =
-        ap (of n) (sym q.1) ∙ (of_more n ys q.0 ∙ ap (λ (w : List Entry). w ++ of n q.0) (ap (of n) (sym p.1) ∙ of_more n xs p.0)) in
+    ap (of n) (sym q.1) ∙ (of_more n ys q.0 ∙ ap (λ (w : List Entry). w ++ of n q.0) (ap (of n) (sym p.1) ∙ of_more n xs p.0)) in
     let none : of n p.0 ≡ [] = empty_middle (of n xs) (of n p.0) (of n q.0) (sym long ∙ e) in
     ap (of n) (sym p.1) ∙ (of_more n xs p.0 ∙ (ap (λ (w : List Entry). of n xs ++ w) none ∙ append-nil (of n xs)))
 

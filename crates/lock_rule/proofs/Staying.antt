@@ -187,6 +187,7 @@ module _ {J : Type 0} where
       joined_few t = ⊎_elim
           (λ (e : v.number ≡ 1). subst (λ (ps : List Joined). begun_by ps ≤ length ps * most_calls) (sym (t.head e).1) (few_begun first g g.joined (λ k p h. (joined k p h).few)))
           (λ (e : v.number ≢ 1). subst (λ (ps : List Joined). begun_by ps ≤ length ps * most_calls) (sym (t.tail e)) (omega arith)) (number_one v.number)
+
       by : (b : Bool) → v.live ≡ b → calls v ≤ heads v * most_calls
       by true e = let t = f.0 e in let a = joined_few t in let b = t.few in
           let h : heads v ≡ 1 + length v.joined = ap (λ (b : Bool). cond {A = ℕ} b 1 0 + length v.joined) e in

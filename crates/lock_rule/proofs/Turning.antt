@@ -110,46 +110,51 @@ module _ {J : Type 0} (entries : J → List Entry) (fault : J → Option Entry) 
         w,
         keeps,
         tt,
-        (g', record {
-          words = ap (λ (ws : List ℕ). set ws 0 ((slice_index ws 0 + 1) % 2 ^ 64)) r.words
-              ∙ ap (λ (n : ℕ). n ∷ g.serving ∷ length g.list ∷ flag_of g.fault ∷ []) (let m : (g.drawn + 1) % 18446744073709551616 ≡ g.drawn + 1 = omega arith in m);
-          homes = r.homes;
-          order = omega arith;
-          waiting = omega arith;
-          held = λ t a b. dite (ℕ_discrete t g.drawn)
-              (λ e. (id, w, set_there s.views id v w at, alive, ap (λ (n : ℕ). Some n) (sym e)))
-              (λ n. some_else (λ (x : View). ticket x.doing ≡ Some t) s.views id v w at (no_ticket t v.doing idle) (r.held t a (omega arith)));
-          home = r.home;
-          away = λ out. some_else (λ (x : View). HasTurn x.doing) s.views id v w at (no_turn v.doing idle) (r.away out);
-          views = fits_stay first g g' s.views id v w at was alive
-              record {
-                doing = (order, (let l : g.drawn < g.drawn + 1 = omega arith in l), put_here g.holder g.drawn id);
-                seen = was.seen;
-                from = was.from;
-                mine = was.mine;
-                owned = was.owned;
-                alive = was.alive;
-                low = was.low;
-                high = was.high;
-                head = was.head;
-                tail = was.tail;
-                few = (let l : v.begun + 1 ≤ most_calls = omega arith in l);
-                mark = was.mark;
-                still = λ k n. was.still k (no_turn v.doing idle);
-              }
-              (λ j x n m f. refit first g g'.drawn g.serving g.home g'.holder j x (draw_doing g id j x.doing f.doing) f) r.views;
-          joined = λ k p e. refit_joined first g g'.drawn g.serving g.home g'.holder k p (r.joined k p e);
-          numbers = λ n a b. is_number_stays g g' s.views id v w at alive refl refl n (r.numbers n a b);
-          begins = r.begins;
-          strangers = r.strangers;
-          carried = λ e k. carried_stays g g' s.views id v w at alive (λ d m. m) refl e (r.carried e k);
-          drawn = omega arith;
-          counted = (let c = r.counted in omega arith);
-          most = r.most;
-        }),
-        (subst (λ (n : ℕ). 0 < n) (sym found) (omega arith),
-         ap (λ (n : ℕ). let x : View = record v { doing = Drew n; begun = v.begun + 1 } in x) (sym found),
-         refl),
+        (
+          g',
+          record {
+            words = ap (λ (ws : List ℕ). set ws 0 ((slice_index ws 0 + 1) % 2 ^ 64)) r.words
+                ∙ ap (λ (n : ℕ). n ∷ g.serving ∷ length g.list ∷ flag_of g.fault ∷ []) (let m : (g.drawn + 1) % 18446744073709551616 ≡ g.drawn + 1 = omega arith in m);
+            homes = r.homes;
+            order = omega arith;
+            waiting = omega arith;
+            held = λ t a b. dite (ℕ_discrete t g.drawn)
+                (λ e. (id, w, set_there s.views id v w at, alive, ap (λ (n : ℕ). Some n) (sym e)))
+                (λ n. some_else (λ (x : View). ticket x.doing ≡ Some t) s.views id v w at (no_ticket t v.doing idle) (r.held t a (omega arith)));
+            home = r.home;
+            away = λ out. some_else (λ (x : View). HasTurn x.doing) s.views id v w at (no_turn v.doing idle) (r.away out);
+            views = fits_stay first g g' s.views id v w at was alive
+                record {
+                  doing = (order, (let l : g.drawn < g.drawn + 1 = omega arith in l), put_here g.holder g.drawn id);
+                  seen = was.seen;
+                  from = was.from;
+                  mine = was.mine;
+                  owned = was.owned;
+                  alive = was.alive;
+                  low = was.low;
+                  high = was.high;
+                  head = was.head;
+                  tail = was.tail;
+                  few = (let l : v.begun + 1 ≤ most_calls = omega arith in l);
+                  mark = was.mark;
+                  still = λ k n. was.still k (no_turn v.doing idle);
+                }
+                (λ j x n m f. refit first g g'.drawn g.serving g.home g'.holder j x (draw_doing g id j x.doing f.doing) f) r.views;
+            joined = λ k p e. refit_joined first g g'.drawn g.serving g.home g'.holder k p (r.joined k p e);
+            numbers = λ n a b. is_number_stays g g' s.views id v w at alive refl refl n (r.numbers n a b);
+            begins = r.begins;
+            strangers = r.strangers;
+            carried = λ e k. carried_stays g g' s.views id v w at alive (λ d m. m) refl e (r.carried e k);
+            drawn = omega arith;
+            counted = (let c = r.counted in omega arith);
+            most = r.most;
+          },
+        ),
+        (
+          subst (λ (n : ℕ). 0 < n) (sym found) (omega arith),
+          ap (λ (n : ℕ). let x : View = record v { doing = Drew n; begun = v.begun + 1 } in x) (sym found),
+          refl,
+        ),
       )
 
   pub looks : (slots id : ℕ) (me : M) (t : ℕ) → me.0.live ≡ true → me.0.doing ≡ Drew t
@@ -164,24 +169,26 @@ module _ {J : Type 0} (entries : J → List Entry) (fault : J → Option Entry) 
       let same : (u : ℕ) → me.0.doing ≡ Drew u → t ≡ u = λ u e. ap (turn_of 0) (sym is ∙ e) in
       dite (ℕ_discrete n t)
       (λ hit.
-        let turn : g.serving ≡ t = sym found ∙ hit in
-        let here : g.holder g.serving ≡ id = ap g.holder turn ∙ mine.2 in
-        let there = some_or g.home (λ out. let a = r.away out in
-            let seat : a.0 ≡ id = sym (turn_holds g a.0 (a.1).doing ((r.views a.0 a.1 a.2).0 a.3).doing a.4) ∙ here in
-            let view : a.1 ≡ v = some-injective a.1 v (sym a.2 ∙ (ap (get_elem? s.views) seat ∙ at)) in
-            subst HasTurn (ap (λ (x : View). x.doing) view ∙ is) a.4) in
-        let slot : Option J = there.0 in
-        let w : View = record v { doing = Has t g.list g.fault } in
-        let g' : LockState J = record g { home = none } in
-        let order = r.order in let waiting = r.waiting in let counts = r.drawn in let c = r.counted in
-        let one : tickets v ≡ 1 = ap (λ (d : Doing). tickets (record v { doing = d })) is in
-        let wait = total_set tickets s.views id v w at in
-        let call = total_set calls s.views id v w at in
-        let head = total_set heads s.views id v w at in (
-          w,
-          takes 0 slot,
-          ap (λ (hs : List (maybe.Option (Option J))). get_elem? hs 0) r.homes ∙ ap (λ (o : maybe.Option (Option J)). some o) there.1,
-          (g', record {
+      let turn : g.serving ≡ t = sym found ∙ hit in
+      let here : g.holder g.serving ≡ id = ap g.holder turn ∙ mine.2 in
+      let there = some_or g.home (λ out. let a = r.away out in
+      let seat : a.0 ≡ id = sym (turn_holds g a.0 (a.1).doing ((r.views a.0 a.1 a.2).0 a.3).doing a.4) ∙ here in
+      let view : a.1 ≡ v = some-injective a.1 v (sym a.2 ∙ (ap (get_elem? s.views) seat ∙ at)) in
+      subst HasTurn (ap (λ (x : View). x.doing) view ∙ is) a.4) in
+      let slot : Option J = there.0 in
+      let w : View = record v { doing = Has t g.list g.fault } in
+      let g' : LockState J = record g { home = none } in
+      let order = r.order in let waiting = r.waiting in let counts = r.drawn in let c = r.counted in
+      let one : tickets v ≡ 1 = ap (λ (d : Doing). tickets (record v { doing = d })) is in
+      let wait = total_set tickets s.views id v w at in
+      let call = total_set calls s.views id v w at in
+      let head = total_set heads s.views id v w at in (
+        w,
+        takes 0 slot,
+        ap (λ (hs : List (maybe.Option (Option J))). get_elem? hs 0) r.homes ∙ ap (λ (o : maybe.Option (Option J)). some o) there.1,
+        (
+          g',
+          record {
             words = ap (λ (ws : List ℕ). set ws 1 (slice_index ws 1)) r.words;
             homes = ap (λ (hs : List (maybe.Option (Option J))). set hs 0 none) r.homes;
             order = r.order;
@@ -214,20 +221,24 @@ module _ {J : Type 0} (entries : J → List Entry) (fault : J → Option Entry) 
             drawn = omega arith;
             counted = omega arith;
             most = r.most;
-          }),
-          λ u e. subst (λ (x : ℕ). (n ≤ x) × ((n ≢ x) → (w, (0, slot) ∷ me.1) ≡ me) × (n ≡ x → Took entries fault run x me (w, (0, slot) ∷ me.1))) (same u e)
-              (early, (λ m. absurd (m hit)), λ _. record {
-                list = g.list;
-                found = g.fault;
-                slot = slot;
-                view = refl;
-                hand = refl;
-                lies = lies_here g was turn slot (r.home slot there.1);
-                marked = λ k. (sym (was.still k (λ m. subst HasTurn is m)), faulty g v.number v.mark was.mark k);
-                seen = was.seen;
-                mine = was.mine;
-              }),
-        ))
+          },
+        ),
+        λ u e. subst (λ (x : ℕ). (n ≤ x) × ((n ≢ x) → (w, (0, slot) ∷ me.1) ≡ me) × (n ≡ x → Took entries fault run x me (w, (0, slot) ∷ me.1))) (same u e) (
+          early,
+          (λ m. absurd (m hit)),
+          λ _. record {
+            list = g.list;
+            found = g.fault;
+            slot = slot;
+            view = refl;
+            hand = refl;
+            lies = lies_here g was turn slot (r.home slot there.1);
+            marked = λ k. (sym (was.still k (λ m. subst HasTurn is m)), faulty g v.number v.mark was.mark k);
+            seen = was.seen;
+            mine = was.mine;
+          },
+        ),
+      ))
       (λ miss. (
         v,
         keeps,
@@ -264,41 +275,44 @@ module _ {J : Type 0} (entries : J → List Entry) (fault : J → Option Entry) 
         w,
         gives,
         tt,
-        subst (λ (cs : List (ℕ × Option J)). Rule (stepped s 1 ((n + 1) % 2 ^ 64) id cs w gives)) (sym carried) (g', record {
-          words = ap (λ (ws : List ℕ). set ws 1 ((slice_index ws 1 + 1) % 2 ^ 64)) r.words
-              ∙ ap (λ (m : ℕ). g.drawn ∷ m ∷ length g.list ∷ flag_of g.fault ∷ []) (let m : (g.serving + 1) % 18446744073709551616 ≡ g.serving + 1 = omega arith in m);
-          homes = ap (λ (hs : List (maybe.Option (Option J))). set hs 0 (some (Some j))) r.homes;
-          order = omega arith;
-          waiting = omega arith;
-          held = λ u a b. some_else (λ (x : View). ticket x.doing ≡ Some u) s.views id v w at
-              (λ e. let k : t ≡ u = same_ticket t u (sym (ap ticket is) ∙ e) in absurd (omega arith)) (r.held u (omega arith) b);
-          home = λ o e. subst (Lies entries fault run first (g.serving + 1) g.list g.fault) (some-injective (Some j) o e) (omega arith, listed ∙ mine.3, faulted ∙ mine.5, runs);
-          away = λ e. absurd (some-ne-none (Some j) e);
-          views = fits_stay first g g' s.views id v w at was alive
-              record {
-                doing = (let z : 0 < g.serving + 1 = omega arith in z);
-                seen = subst (λ (es : List Entry). IsPrefix es g.list) (sym mine.3) (prefix_self g.list);
-                from = subst (IsPrefix first) (sym mine.3) r.begins;
-                mine = ap (of v.number) (sym mine.3);
-                owned = was.owned;
-                alive = was.alive;
-                low = was.low;
-                high = was.high;
-                head = was.head;
-                tail = was.tail;
-                few = was.few;
-                mark = was.mark;
-                still = λ _ _. mine.3;
-              }
-              (λ i x m o p. refit first g g.drawn (g.serving + 1) (some (Some j)) g.holder i x (pass_doing g (Some j) id i x.doing m here p.doing) p) r.views;
-          joined = λ k p e. refit_joined first g g.drawn (g.serving + 1) (some (Some j)) g.holder k p (r.joined k p e);
-          numbers = λ m a b. is_number_stays g g' s.views id v w at alive refl refl m (r.numbers m a b);
-          begins = r.begins;
-          strangers = r.strangers;
-          carried = λ e k. carried_stays g g' s.views id v w at alive (λ d m. m) refl e (r.carried e k);
-          drawn = omega arith;
-          counted = omega arith;
-          most = r.most;
-        }),
+        subst (λ (cs : List (ℕ × Option J)). Rule (stepped s 1 ((n + 1) % 2 ^ 64) id cs w gives)) (sym carried) (
+          g',
+          record {
+            words = ap (λ (ws : List ℕ). set ws 1 ((slice_index ws 1 + 1) % 2 ^ 64)) r.words
+                ∙ ap (λ (m : ℕ). g.drawn ∷ m ∷ length g.list ∷ flag_of g.fault ∷ []) (let m : (g.serving + 1) % 18446744073709551616 ≡ g.serving + 1 = omega arith in m);
+            homes = ap (λ (hs : List (maybe.Option (Option J))). set hs 0 (some (Some j))) r.homes;
+            order = omega arith;
+            waiting = omega arith;
+            held = λ u a b. some_else (λ (x : View). ticket x.doing ≡ Some u) s.views id v w at
+                (λ e. let k : t ≡ u = same_ticket t u (sym (ap ticket is) ∙ e) in absurd (omega arith)) (r.held u (omega arith) b);
+            home = λ o e. subst (Lies entries fault run first (g.serving + 1) g.list g.fault) (some-injective (Some j) o e) (omega arith, listed ∙ mine.3, faulted ∙ mine.5, runs);
+            away = λ e. absurd (some-ne-none (Some j) e);
+            views = fits_stay first g g' s.views id v w at was alive
+                record {
+                  doing = (let z : 0 < g.serving + 1 = omega arith in z);
+                  seen = subst (λ (es : List Entry). IsPrefix es g.list) (sym mine.3) (prefix_self g.list);
+                  from = subst (IsPrefix first) (sym mine.3) r.begins;
+                  mine = ap (of v.number) (sym mine.3);
+                  owned = was.owned;
+                  alive = was.alive;
+                  low = was.low;
+                  high = was.high;
+                  head = was.head;
+                  tail = was.tail;
+                  few = was.few;
+                  mark = was.mark;
+                  still = λ _ _. mine.3;
+                }
+                (λ i x m o p. refit first g g.drawn (g.serving + 1) (some (Some j)) g.holder i x (pass_doing g (Some j) id i x.doing m here p.doing) p) r.views;
+            joined = λ k p e. refit_joined first g g.drawn (g.serving + 1) (some (Some j)) g.holder k p (r.joined k p e);
+            numbers = λ m a b. is_number_stays g g' s.views id v w at alive refl refl m (r.numbers m a b);
+            begins = r.begins;
+            strangers = r.strangers;
+            carried = λ e k. carried_stays g g' s.views id v w at alive (λ d m. m) refl e (r.carried e k);
+            drawn = omega arith;
+            counted = omega arith;
+            most = r.most;
+          },
+        ),
         λ t' l' f' e. (ap (λ (es : List Entry). let x : View = record v { doing = Idle; seen = es } in x) (ap (list_of []) (sym is ∙ e)), refl),
       )

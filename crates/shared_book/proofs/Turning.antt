@@ -31,11 +31,11 @@ module _ {D : Type 0} (honest : D → Type 0) (seen : D → List ℕ) (images : 
   pub looks_from : (key : JournalState D) (start : Option (JournalState D)) (slots id : ℕ) (me : Me (Option (JournalState D)) View) (t : ℕ) → start ≡ Some key
       → me.0.live ≡ true → me.0.doing ≡ Drew t
       → Allows (Locked (λ (j : JournalState D). j.entries) (λ (j : JournalState D). j.fault) (Goes key) key.entries) slots id me 1 (λ n. n)
-          (looked (λ (j : JournalState D). j.entries) (λ (j : JournalState D). j.fault) (GoesFrom honest seen images moment since faults start) (step slots 1 0 0 none) me)
+      (looked (λ (j : JournalState D). j.entries) (λ (j : JournalState D). j.fault) (GoesFrom honest seen images moment since faults start) (step slots 1 0 0 none) me)
   looks_from key start slots id me t is alive drew =
       subst (λ (o : Option (JournalState D)). Allows (Locked (λ (j : JournalState D). j.entries) (λ (j : JournalState D). j.fault) (Goes key) key.entries) slots id me 1 (λ n. n)
-          (looked (λ (j : JournalState D). j.entries) (λ (j : JournalState D). j.fault) (GoesFrom honest seen images moment since faults o) (step slots 1 0 0 none) me)) (sym is)
-          (looks (λ (j : JournalState D). j.entries) (λ (j : JournalState D). j.fault) (Goes key) key.entries slots id me t alive drew)
+      (looked (λ (j : JournalState D). j.entries) (λ (j : JournalState D). j.fault) (GoesFrom honest seen images moment since faults o) (step slots 1 0 0 none) me)) (sym is)
+      (looks (λ (j : JournalState D). j.entries) (λ (j : JournalState D). j.fault) (Goes key) key.entries slots id me t alive drew)
 
   -- what an answer leaves of the shape, the room and the fault
   pub record Left (old new : JournalState D) (result : Result Applied ApplyFault) : Type 0 where

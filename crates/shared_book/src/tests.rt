@@ -92,9 +92,11 @@ fn shape() -> Result<Shape, Fail> {
 // The upload 0 of host 1, of one column.
 fn first_upload(alloc: Global) -> Result<Upload, Fail> {
     let column = column(1500).ok_or("no column")?;
-    Ok(Upload::new(1, 0, [column].to_vec(alloc)?)
-        .ok()
-        .ok_or("no upload")?)
+    Ok(
+        Upload::new(1, 0, [column].to_vec(alloc)?)
+            .ok()
+            .ok_or("no upload")?,
+    )
 }
 
 // What a second pass and then the first one got for one upload, how many calls the second has left, how many passes were
@@ -109,7 +111,12 @@ type Told = (
 );
 
 // One upload by a second pass, then by the first.
-fn apply_twice<R: Wait>(rt: &R, journal: Journal<MemoryDisk>, alloc: Global, upload: &Upload) -> Result<Told, Fail>
+fn apply_twice<R: Wait>(
+    rt: &R,
+    journal: Journal<MemoryDisk>,
+    alloc: Global,
+    upload: &Upload,
+) -> Result<Told, Fail>
     requires whole { journal.fault ≡ None }
 {
     let Ok((book, mut first)) = share(alloc, journal) else {

@@ -232,8 +232,11 @@ fn pass_on_broken<D: Disk>(top: &Top<D>, seat: &mut Place<D>, journal: Journal<D
     requires hand { seat.old.me.1 ≡ (0, None) ∷ [] }
     requires goes { GoesOn D.honest D.seen D.images D.moment D.since D.faults top.now.key.value journal }
     ensures same { IsSameSeat seat.old seat.new }
-    ensures passed { seat.new.me ≡ (resting seat.old.me.0 journal.entries
-        (mark_after (found_by seat.old.me.0.doing) journal.fault seat.old.me.0.mark), []) }
+    ensures passed { seat.new.me ≡ (
+      resting seat.old.me.0 journal.entries
+          (mark_after (found_by seat.old.me.0.doing) journal.fault seat.old.me.0.mark),
+      [],
+    ) }
 {
     give_back(top, seat, journal);
     top.swap::<Break>(seat, 3, 1);

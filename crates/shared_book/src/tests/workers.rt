@@ -62,7 +62,6 @@ fn work<D: Disk, R: Wait>(rt: &R, alloc: Global, book: &SharedBook<D>, job: &mut
     }
 }
 
-#[tactic(auto, using(crate::proofs::Crossing::shared_sync))]
 fn work_all<D: Disk + Send, R: Threads + Wait + Sync>(
     rt: &R,
     alloc: Global,
@@ -73,10 +72,15 @@ fn work_all<D: Disk + Send, R: Threads + Wait + Sync>(
     ensures same { length jobs.new ≡ length jobs.old }
     ensures jobs { All (λ j. (j.pass.book ≡ book.now.id) × (j.pass.view.number ≢ 1)) jobs.new }
 {
-    thread::for_each_mut(rt, jobs, 64, &|_: usize, job: &mut Job|
+    thread::for_each_mut(
+        rt,
+        jobs,
+        64,
+        &|_: usize, job: &mut Job|
             requires { (job.now.pass.book ≡ book.now.id) × (job.now.pass.view.number ≢ 1) }
             ensures { (job.exit.now.pass.book ≡ book.entry.now.id) × (job.exit.now.pass.view.number ≢ 1) }
-        { work(rt, alloc, book, job) });
+        { work(rt, alloc, book, job) },
+    );
 }
 
 fn split_one<D: Disk>(
@@ -143,7 +147,9 @@ fn join_all<D: Disk>(book: &SharedBook<D>, first: &mut Pass, jobs: &mut Vec<Job>
     let mut stored = 0u32;
     while let Some(job) = jobs.pop() {
         let Job {
-            pass, stored: more, ..
+            pass,
+            stored: more,
+            ..
         } = job;
         book.join(first, pass);
         stored = stored.saturating_add(more);
@@ -193,7 +199,11 @@ fn are_even(book: &Book, passes: u16, count: u32) -> bool {
         }
     }
     for pass in 0..66u16 {
-        let want = if 2 <= pass && pass < passes.saturating_add(2) { count } else { 0 };
+        let want = if 2 <= pass && pass < passes.saturating_add(2) {
+            count
+        } else {
+            0
+        };
         if next[pass as usize] != want {
             return false;
         }

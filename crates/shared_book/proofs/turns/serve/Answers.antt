@@ -20,7 +20,7 @@ end_turn-requires-clause-goes g c =
     let here = taken_here g.D.Disk.honest g.D.Disk.seen g.D.Disk.images g.D.Disk.moment g.D.Disk.since g.D.Disk.faults c.args.top.now.key.value c.draw_ticket-ticket.result c.draw_ticket-ticket.new.seat.me c.take.new.seat.me c.take.result c.in-Some.journal c.take.ensures.taken c.in-Some.is in
     let did = c.apply-answer.ensures in
     goes_on g.D.Disk.honest g.D.Disk.seen g.D.Disk.images g.D.Disk.moment g.D.Disk.since g.D.Disk.faults c.args.number c.args.upload.now c.args.top.now.key.value c.in-Some.journal c.apply-answer.new.self c.apply-answer.result
-        here.1 did.applies.answers did.still did.was did.never_falls did.cause did.applies.runs
+    here.1 did.applies.answers did.still did.was did.never_falls did.cause did.applies.runs
 
 pub returns-clause-serves : goal.returns-clause-serves
 returns-clause-serves g c = search rules
