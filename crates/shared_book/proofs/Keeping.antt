@@ -1,5 +1,5 @@
 -- What a call keeps of a pass.
-use Rattle.std.proofs.Common.{◌≡◌, ℕ, ◌+◌, ◌≤◌, List, [], ◌∷◌, ◌++◌, length, Option, None, Some, Result, Ok, Err, sym, ap, ◌∙◌, refl, subst, arith}
+use Rattle.std.proofs.Common.{◌≡◌, ℕ, ◌+◌, ◌≤◌, List, [], ◌∷◌, Result, Ok, Err, sym, ap, refl, subst, arith}
 use mathlib.Core.List.{IsPrefix}
 use Rattle.lg_base.specs.declared.faults.Memory.{Memory}
 use Rattle.lg_model.specs.Placing.{Shape}

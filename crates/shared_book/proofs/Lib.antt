@@ -3,3 +3,4 @@ pub mod Turning
 pub mod Closing
 pub mod Keeping
 pub mod Crossing
+pub mod Told

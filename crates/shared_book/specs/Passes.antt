@@ -1,5 +1,5 @@
 -- A shared book and its passes, as clauses see them.
-use Rattle.std.specs.Prelude.{◌≡◌, ℕ, ◌+◌, ◌≤◌, true, List, [], ◌∷◌, ◌++◌, length, Result, Ok, Err}
+use Rattle.std.specs.Prelude.{◌≡◌, ℕ, ◌+◌, ◌≤◌, true, List, [], ◌∷◌, ◌++◌, length, take, Result, Ok, Err}
 use mathlib.Core.List.{IsPrefix}
 use Rattle.atomic_table.specs.Seated.{TableId}
 use Rattle.lg_model.specs.Placing.{Shape}
@@ -105,3 +105,22 @@ pub record Keeps (v w : View) : Type 0 where
   pub joined : w.joined ≡ v.joined
   pub seen : IsPrefix v.seen w.seen
   pub begun : w.begun ≤ v.begun + 1
+
+-- ---- the same, by what the pass has seen after it
+
+-- At `Stored(p)` the seen list has length p + 1, and its last entry is the one that the upload becomes on the first p. At
+-- every other answer the decision is the one on the seen list. `DiskFault` and `Broken` leave a mark, `DiskFault` with the
+-- entry that the upload would become.
+abbrev pub IsTold : Shape → (room : ℕ) → UploadData → (w : View) → Result Applied ApplyFault → Type 0
+IsTold shape room u w (Ok (Stored p)) = (length w.seen ≡ p + 1) × (w.seen ≡ take p w.seen ++ stored_entry w.number (take p w.seen) u ∷ [])
+IsTold shape room u w (Ok Known) = decide shape room (records w.seen) u ≡ Ok []
+IsTold shape room u w (Err (Broken n)) = Marked w.mark × (n ≡ length w.seen)
+IsTold shape room u w (Err (WrongShape kept came)) = decide shape room (records w.seen) u ≡ Err (book.WrongShape kept came)
+IsTold shape room u w (Err (Conflict key kept came)) = decide shape room (records w.seen) u ≡ Err (book.Conflict key kept came)
+IsTold shape room u w (Err (Full held more)) = decide shape room (records w.seen) u ≡ Err (book.Full held more)
+IsTold shape room u w (Err Memory) = HasNewBy shape room w.number u w.seen
+IsTold shape room u w (Err DiskFault) = HasNewBy shape room w.number u w.seen × (w.mark ≡ Carries (stored_entry w.number w.seen u))
+
+abbrev pub LawOfApplies : Type 0
+LawOfApplies = (shape : Shape) (room : ℕ) (u : UploadData) (v w : View) (answer : Result Applied ApplyFault) → Serves shape room u v w answer
+    → IsTold shape room u w answer

@@ -6,6 +6,7 @@
 //! | [`Pass`] | the right to apply uploads to it |
 //! | [`answer`] | the answer to a frame, over a pass |
 //! | [`reply_of`] | the reply to an upload, from what a journal answered |
+//! | [`applies_are_told`] | law: what an apply answers, by what the pass has seen after it |
 //! | [`replies_follow_decisions`] | law: these replies are the rule's |
 #![tactic(auto)]
 
@@ -18,7 +19,7 @@ mod turns;
 
 pub use answering::answer;
 pub use book::{SharedBook, share};
-pub use laws::replies_follow_decisions;
+pub use laws::{applies_are_told, replies_follow_decisions};
 pub use pass::Pass;
 pub use reply::reply_of;
 

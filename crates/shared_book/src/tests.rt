@@ -1,6 +1,8 @@
 ghost use Rattle.std.specs.Prelude.{◌≡◌, None};
 
-use crate::{Pass, SharedBook, answer, replies_follow_decisions, reply_of, share};
+use crate::{
+    Pass, SharedBook, answer, applies_are_told, replies_follow_decisions, reply_of, share,
+};
 use book_journal::{Applied, ApplyFault, Journal};
 use column_book::{Head, ROOM};
 use lg_disk::{Disk, MemoryDisk};
@@ -82,6 +84,7 @@ fn each_answer_has_its_reply(rt: HostRuntime) -> Result<(), Fail> {
         assert_eq!(rt; reply_of(&upload, &applied), reply);
     }
     replies_follow_decisions();
+    applies_are_told();
     Ok(())
 }
 
