@@ -1,17 +1,17 @@
 -- The lines of the uploads that were taken.
-use Rattle.std.specs.Prelude.{◌≡◌, ◌⊎◌, ℕ, zero, suc, ◌+◌, ◌<◌, ◌≤◌, nat_lt, Bool, true, false, if◌then◌else◌, List, [], ◌∷◌, ◌++◌, length, take, drop, slice_index_or}
+use Rattle.std.specs.Prelude.{◌≡◌, ◌⊎◌, ℕ, zero, suc, ◌+◌, ◌<◌, ◌≤◌, nat_lt, Bool, if◌then◌else◌, List, [], ◌∷◌, ◌++◌, length, take, drop, slice_index_or}
 use Rattle.std.specs.List.{flat_map, enumerate_from, range_with_len}
 use Rattle.std.proofs.Common.{refl, sym, ap, ◌∙◌, subst, arith, inl, inr, zero-add, length-append}
 use Rattle.std.proofs.Math.ListN.{get_or-eq_default}
-use Rattle.std.proofs.lemmas.Bool.{cases_lt, lt-ltb, le-ltb, ltb-true}
-use Rattle.std.proofs.lemmas.List.{append-nil, take-append-drop, length-take, get_or_default}
+use Rattle.std.proofs.lemmas.Bool.{cases_lt, lt-ltb, le-ltb}
+use Rattle.std.proofs.lemmas.List.{append-nil, take-append-drop, length-take}
 use Rattle.std.proofs.lemmas.Grind.{flat_map-append}
 use Rattle.lg_model.specs.declared.scenario.HostLine.{HostLine}
 use Rattle.lg_model.specs.Scenario.{Scenario}
 use Rattle.lg_model.proofs.Tracing.{enumerate_from-append}
 use Rattle.sketchlet_wire.specs.Uploads.{UploadData}
-use Rattle.book_laws.specs.Legal.{no_host, host_at, uploads_at, upload_at}
-use Rattle.book_laws.specs.Keeping.{Acks, IsHeld, IsAnswered, AreAcked}
+use Rattle.book_laws.specs.Legal.{uploads_at}
+use Rattle.book_laws.specs.Keeping.{AreAcked}
 use Rattle.book_laws.specs.Turns.{count_before, among_first}
 use Rattle.book_laws.specs.Laws.{AreAmong, LawOfCounts}
 use Rattle.report_text.specs.Columns.{acked_line}

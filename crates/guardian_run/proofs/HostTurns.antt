@@ -1,14 +1,12 @@
 -- The turns of a host, as its items are cut; and those of all hosts, one after the other.
 use Rattle.std.specs.Prelude.{◌≡◌, ℕ, zero, suc, ◌+◌, ◌<◌, ◌≤◌, ◌⊎◌, List, [], ◌∷◌, ◌++◌, map, length, take, drop, Option, None, Some, slice_index_or}
 use Rattle.std.specs.List.{flat_map, enumerate_from}
-use Rattle.std.proofs.Common.{refl, sym, ap, ◌∙◌, subst, arith, inl, inr, append_assoc, length-append}
+use Rattle.std.proofs.Common.{refl, sym, ap, ◌∙◌, subst, arith, inl, inr, length-append}
 use Rattle.std.proofs.lemmas.Bool.{cases_lt}
 use Rattle.std.proofs.lemmas.List.{append-nil, map-append, length-map, take-append-drop, length-take, get_or_default}
 use Rattle.std.proofs.lemmas.Grind.{flat_map-append}
 use Rattle.lg_model.specs.declared.scenario.HostLine.{HostLine}
 use Rattle.lg_model.specs.Scenario.{Scenario}
-use Rattle.lg_model.specs.Carrying.{picked}
-use Rattle.lg_model.specs.Arriving.{brought}
 use Rattle.lg_model.specs.Columns.{Column}
 use Rattle.lg_model.specs.Matching.{Matched}
 use Rattle.lg_model.proofs.Pairing.{matched_length}
@@ -23,7 +21,7 @@ use Rattle.book_journal.specs.declared.applied.ApplyFault.{ApplyFault}
 use Rattle.book_journal.specs.declared.applied.ApplyFault.TheVariants as faults
 use Rattle.book_journal.specs.Runs.{JournalState}
 use Rattle.run_laws.specs.Booking.{host_uploads}
-use Rattle.book_laws.specs.Legal.{no_host, host_at, uploads_at}
+use Rattle.book_laws.specs.Legal.{no_host, uploads_at}
 use Rattle.book_laws.specs.Turns.{Turn, count_before}
 use Rattle.book_laws.proofs.Uploads.{count_next}
 use Rattle.guardian_run.specs.Storing.{turns_with, host_turns, turns_of, HasTaken, HasStopped, Keeps, AreCounts}
@@ -104,8 +102,7 @@ module _ (pass host : ℕ) (arrived : List Packed) (cs : List Column) (all : Mat
         let is = last_turn u end keeps held in
         let size = ap length is in
         let parts = length-append (turned pass given) ((pass, u) ∷ []) in
-        let l = long in
-        (
+        let l = long in (
           subst (λ (ts : List Turn). HasTaken ts old new) (sym is) (taken_more (turned pass given) ((pass, u) ∷ []) old now new taken next),
           omega (arith, size, parts, l),
         )

@@ -1,6 +1,6 @@
 -- What a run leaves on the disk: what opening left, and then the run of the journal.
-use Rattle.std.specs.Prelude.{◌≡◌, ◌⊎◌, ℕ, ◌+◌, ◌≤◌, List, [], ◌∷◌, ◌++◌, length, Option, None, Some}
-use Rattle.std.proofs.Common.{refl, sym, ap, ◌∙◌, subst, arith, inl, inr, append_assoc, length-append}
+use Rattle.std.specs.Prelude.{◌≡◌, ◌⊎◌, ℕ, ◌≤◌, List, [], ◌∷◌, ◌++◌, length, Option, None, Some}
+use Rattle.std.proofs.Common.{sym, ap, ◌∙◌, subst, arith, inl, inr, append_assoc, length-append}
 use Rattle.std.proofs.lemmas.List.{append-nil, map-append}
 use mathlib.Core.List.{IsPrefix}
 use Rattle.lg_model.specs.Placing.{Shape}
@@ -8,12 +8,12 @@ use Rattle.lg_model.specs.Scenario.{Scenario}
 use Rattle.sketchlet_wire.specs.Uploads.{UploadData}
 use Rattle.column_book.specs.declared.entry.Entry.{Entry}
 use Rattle.column_book.specs.Entries.{records}
-use Rattle.book_file.specs.Between.{Files, IsBetween}
+use Rattle.book_file.specs.Between.{IsBetween}
 use Rattle.book_file.specs.File.{IsBlank, StandsFor}
 use Rattle.book_journal.specs.Opening.{OpenLeaves}
-use Rattle.book_journal.specs.Runs.{JournalState, Start, IsRun as IsJournalRun, start_of, with_fault}
+use Rattle.book_journal.specs.Runs.{JournalState, IsRun as IsJournalRun, start_of, with_fault}
 use Rattle.book_laws.specs.Legal.{in_order, IsLegal}
-use Rattle.book_laws.specs.Leaving.{IsLeft, IsSettled}
+use Rattle.book_laws.specs.Leaving.{IsLeft}
 use Rattle.book_laws.specs.Laws.{LawOfStanding}
 
 one_more : (es : List Entry) (fault : Option Entry) → (more : List UploadData) × (records (with_fault es fault) ≡ records es ++ more) × (length more ≤ 1)
@@ -80,9 +80,9 @@ module _ {D : Type 0} (honest : D → Type 0) (seen : D → List ℕ) (images : 
   pub read : ((d : D) → honest d → images d (seen d)) → StandsFor w.shape (records new.entries) (seen new.disk) ⊎ StandsFor w.shape full (seen new.disk)
   read reads_image = elim (run.now (seen new.disk) (reads_image new.disk run.told)) as
       (λ _. StandsFor w.shape (records new.entries) (seen new.disk) ⊎ StandsFor w.shape full (seen new.disk)) [
-    | inl is ↦ inl (stands_here (records new.entries) (seen new.disk) is)
-    | inr is ↦ inr (stands_here full (seen new.disk) is)
-  ]
+        | inl is ↦ inl (stands_here (records new.entries) (seen new.disk) is)
+        | inr is ↦ inr (stands_here full (seen new.disk) is)
+      ]
 
   pub repeats : (IsBlank (seen start) → ⊥) → new.fault ≡ None → new.entries ≡ old.entries → seen new.disk ≡ seen start
   repeats written whole same = run.reads whole same ∙ opened.reads written

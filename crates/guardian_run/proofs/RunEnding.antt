@@ -1,11 +1,10 @@
 -- How a run ends, by what opening the book and the uploads came to.
-use Rattle.std.specs.Prelude.{◌≡◌, ◌≢◌, ◌⊎◌, ℕ, ◌<◌, ◌≤◌, true, false, List, [], ◌∷◌, length, Option, None, Some, Contains, All, IfSome, IfOk, IfErr, Result, Ok, Err}
+use Rattle.std.specs.Prelude.{◌≡◌, ◌⊎◌, ℕ, ◌≤◌, List, length, Some, Contains, IfSome, IfOk, IfErr, Result, Ok, Err}
 use Rattle.std.proofs.Common.{refl, sym, ap, ◌∙◌, subst, arith, inl, inr}
 use Rattle.std.proofs.lemmas.List.Elements.{All-contains}
 use Rattle.lg_base.specs.Causes.{Rose}
 use Rattle.lg_base.specs.declared.faults.Memory.{Memory}
 use Rattle.lg_model.specs.declared.column.Key.{Key}
-use Rattle.lg_model.specs.Placing.{Shape}
 use Rattle.lg_model.specs.Scenario.{Scenario}
 use Rattle.lg_model.specs.Carrying.{picked}
 use Rattle.lg_model.specs.Arriving.{brought_to_all}
@@ -22,20 +21,18 @@ use Rattle.column_book.specs.Entries.{records, content_in}
 use Rattle.book_file.specs.declared.found.OpenFault.{OpenFault}
 use Rattle.book_file.specs.declared.found.OpenFault.TheVariants as file
 use Rattle.book_file.specs.File.{IsBlank, StandsFor}
-use Rattle.book_file.specs.Found.{count_of}
 use Rattle.book_journal.specs.Crashes.{OnlyReads}
 use Rattle.book_journal.specs.Looking.{Reads}
 use Rattle.book_journal.specs.Opening.{OpenLeaves, IsRefused}
-use Rattle.book_journal.specs.Runs.{JournalState, Start, IsRun as IsJournalRun, start_of, with_fault}
+use Rattle.book_journal.specs.Runs.{JournalState, IsRun as IsJournalRun, start_of, with_fault}
 use Rattle.run_laws.specs.Truth.{IsFrozenColumn, book_of}
 use Rattle.run_laws.proofs.Agreeing.{cells_at}
 use Rattle.run_laws.proofs.True.{true_run}
 use Rattle.book_laws.specs.Legal.{in_order}
 use Rattle.book_laws.specs.Keeping.{Acks, IsClash}
 use Rattle.book_laws.specs.Laws.{LawOfStanding, LawOfTrueLists}
-use Rattle.book_laws.proofs.Contents.{if_some, of_if, some_found}
+use Rattle.book_laws.proofs.Contents.{of_if, some_found}
 use Rattle.report_text.specs.Faults.{read_fault_line, disk_fault_line, no_memory_line, scenario_line}
-use Rattle.guardian_words.specs.declared.commands.Command.TheVariants.{Run}
 use Rattle.guardian_run.specs.declared.refusal.Refusal.{Refusal}
 use Rattle.guardian_run.specs.declared.refusal.Refusal.TheVariants as refusals
 use Rattle.guardian_run.specs.declared.status.Status.{Status}
@@ -44,12 +41,11 @@ use Rattle.guardian_run.specs.declared.telling.Told.{Told}
 use Rattle.guardian_run.specs.declared.telling.Told.TheVariants as told
 use Rattle.guardian_run.specs.Changes.{Change, HasFailed}
 use Rattle.guardian_run.specs.Refusals.{status_of, fault_line, refusal_of, file_refusal}
-use Rattle.guardian_run.specs.Outcomes.{HasFault, HasRecords}
-use Rattle.guardian_run.specs.Giving.{Draws}
-use Rattle.guardian_run.specs.Ends.{IsOutputEnd, Puts}
+use Rattle.guardian_run.specs.Outcomes.{HasFault}
+use Rattle.guardian_run.specs.Ends.{Puts}
 use Rattle.guardian_run.specs.Ending.{EndsWith, EndsWithLine, EndsRefused}
 use Rattle.guardian_run.specs.Storing.{Keeps}
-use Rattle.guardian_run.specs.Running.{RunSays, StartSays, ReadSays, TellsClash, IsUnread, IsStart, IsRun, CanRun, RunsFrom, RunEnds}
+use Rattle.guardian_run.specs.Running.{RunSays, StartSays, ReadSays, IsStart, IsRun, CanRun, RunsFrom, RunEnds}
 use Rattle.guardian_run.specs.Telling.{status_told, text_told, EndsTold, HasRun}
 use Rattle.guardian_run.proofs.EndLemmas.{said_by, said_is}
 use Rattle.guardian_run.proofs.OneOutcome.{no_fault}

@@ -1,8 +1,8 @@
 -- Turns that a journal takes one after the other.
-use Rattle.std.specs.Prelude.{◌≡◌, ◌⊎◌, ℕ, ◌+◌, ◌<◌, ◌≤◌, List, [], ◌∷◌, ◌++◌, map, length, fold, Option, None, Some, IsSome, IfOk, IfErr, Result, Ok, Err, min, ◌-◌, ◌^◌}
+use Rattle.std.specs.Prelude.{◌≡◌, ℕ, ◌+◌, ◌≤◌, List, [], ◌∷◌, ◌++◌, map, length, fold, Option, None, Some, IsSome, IfOk, IfErr, Result, Ok, Err}
 use Rattle.std.specs.List.{flat_map, enumerate_from}
 use Rattle.std.proofs.Common.{refl, sym, ap, ◌∙◌, subst, arith, append_assoc, length-append}
-use Rattle.std.proofs.lemmas.List.{append-nil, map-append, length-map}
+use Rattle.std.proofs.lemmas.List.{map-append}
 use Rattle.std.proofs.lemmas.Grind.{fold-append}
 use Rattle.lg_base.specs.Causes.{Rose}
 use Rattle.lg_model.specs.declared.scenario.HostLine.{HostLine}
@@ -20,12 +20,12 @@ use Rattle.book_journal.specs.declared.applied.Applied.{Applied}
 use Rattle.book_journal.specs.declared.applied.Applied.TheVariants.{Stored, Known}
 use Rattle.book_journal.specs.declared.applied.ApplyFault.{ApplyFault}
 use Rattle.book_journal.specs.declared.applied.ApplyFault.TheVariants as faults
-use Rattle.book_journal.specs.Applying.{Answers, Applies, HasNew, with_entry, broken}
-use Rattle.book_journal.specs.Runs.{JournalState, Start, IsRun}
+use Rattle.book_journal.specs.Applying.{Answers}
+use Rattle.book_journal.specs.Runs.{JournalState}
 use Rattle.run_laws.specs.Booking.{host_uploads, uploads_of, booked_by}
 use Rattle.book_laws.specs.Turns.{Turn, uploads_in, with_turn, applied, HasApplied}
 use Rattle.book_laws.proofs.Turns.{stored_is}
-use Rattle.guardian_run.specs.Storing.{host_turns, turns_of, HasTaken, IsRefusedNext, IsBrokenNext, IsStop, HasStopped, Keeps}
+use Rattle.guardian_run.specs.Storing.{host_turns, turns_of, HasTaken, IsRefusedNext, IsStop, HasStopped, Keeps}
 
 -- what a `?` hands on
 pub err_so : {T F : Type 0} → (r : Result T F) (y f : F) (P : F → Type 0) → r ≡ Err y → y ≡ f → P f → IfErr r P

@@ -1,16 +1,14 @@
 -- What the uploads of a run made of the journal, by how they ended.
-use Rattle.std.specs.Prelude.{◌≡◌, ◌⊎◌, ℕ, ◌≤◌, List, [], ◌∷◌, ◌++◌, length, Option, None, Some, Result, Ok, Err}
-use Rattle.std.proofs.Common.{refl, sym, ap, ◌∙◌, subst, arith, inl, inr}
+use Rattle.std.specs.Prelude.{◌≡◌, ◌⊎◌, ℕ, List, [], length, Option, None}
+use Rattle.std.proofs.Common.{refl, sym, ap, ◌∙◌, subst, inl, inr}
 use Rattle.std.proofs.lemmas.List.{append-nil}
 use Rattle.lg_model.specs.Scenario.{Scenario}
 use Rattle.lg_model.specs.Placing.{Shape}
-use Rattle.lg_model.specs.Columns.{Column}
-use Rattle.sketchlet_wire.specs.Uploads.{UploadData}
 use Rattle.column_book.specs.declared.book.TheConstants.{ROOM}
 use Rattle.column_book.specs.declared.entry.Entry.{Entry}
 use Rattle.column_book.specs.declared.fault.BookFault.{BookFault}
 use Rattle.column_book.specs.declared.fault.BookFault.TheVariants as book
-use Rattle.column_book.specs.Entries.{records, content, content_in}
+use Rattle.column_book.specs.Entries.{records, content}
 use Rattle.column_book.specs.Applying.{decide, stored_entry}
 use Rattle.scenario_parts.specs.Whole.{IsWhole}
 use Rattle.book_journal.specs.declared.applied.ApplyFault.{ApplyFault}
@@ -18,15 +16,15 @@ use Rattle.book_journal.specs.declared.applied.ApplyFault.TheVariants as faults
 use Rattle.book_journal.specs.Runs.{JournalState, with_fault}
 use Rattle.book_laws.specs.Legal.{in_order, IsLegal}
 use Rattle.book_laws.specs.Keeping.{Acks, HasKeysOnce, IsCaused, AreAcked}
-use Rattle.book_laws.specs.Turns.{Turn, uploads_in, among_first}
+use Rattle.book_laws.specs.Turns.{uploads_in, among_first}
 use Rattle.book_laws.specs.Laws.{IsInTurn, LawOfTurns, LawOfCounts}
-use Rattle.report_text.specs.Faults.{disk_fault_line, no_memory_line, full_line, conflict_line}
+use Rattle.report_text.specs.Faults.{no_memory_line}
 use Rattle.report_text.specs.Report.{report}
 use Rattle.guardian_run.specs.declared.status.Status.{Status}
 use Rattle.guardian_run.specs.declared.status.Status.TheVariants as status
 use Rattle.guardian_run.specs.declared.telling.Told.{Told}
-use Rattle.guardian_run.specs.Storing.{turns_of, HasTaken, IsRefusedNext, IsBrokenNext, IsStop, HasStopped, AreCounts, acks_of}
-use Rattle.guardian_run.specs.Running.{RunSays, acked_lines}
+use Rattle.guardian_run.specs.Storing.{turns_of, HasTaken, IsRefusedNext, IsStop, HasStopped, AreCounts, acks_of}
+use Rattle.guardian_run.specs.Running.{RunSays}
 use Rattle.guardian_run.specs.Telling.{status_told, text_told, CanBeTold, TellsStop, HasRun}
 use Rattle.guardian_run.proofs.Taking.{applied_front, taken_none, starved_after}
 use Rattle.guardian_run.proofs.AckedLines.{acked_counts}
@@ -141,22 +139,28 @@ module _ {D : Type 0} (w : Scenario) (old new : JournalState D) (shape : old.sha
 
         by : (g : ApplyFault) → f ≡ g → IsStop g stopped.rest new → TellsStop w (acks_of counts) g t → HasRun rose w old new (status_told t) (text_told t)
         by (faults.Conflict key kept came) is r told =
-            at status.Conflict (text_told t) told.0 (λ e. cc) (no_more new.entries new.fault r.whole, record {
-              key = key;
-              kept = kept;
-              came = came;
-              clash = caused fits once (book.Conflict key kept came) r;
-              is = told.1;
-            })
+            at status.Conflict (text_told t) told.0 (λ e. cc) (
+              no_more new.entries new.fault r.whole,
+              record {
+                key = key;
+                kept = kept;
+                came = came;
+                clash = caused fits once (book.Conflict key kept came) r;
+                is = told.1;
+              },
+            )
         by (faults.Full held more) is r told =
             let c = caused fits once (book.Full held more) r in
-            at status.Full (text_told t) told.0 (λ e. cc) (no_more new.entries new.fault r.whole, record {
-              held = held;
-              more = more;
-              overfull = c.0;
-              no_room = c.1;
-              is = told.1;
-            })
+            at status.Full (text_told t) told.0 (λ e. cc) (
+              no_more new.entries new.fault r.whole,
+              record {
+                held = held;
+                more = more;
+                overfull = c.0;
+                no_room = c.1;
+                is = told.1;
+              },
+            )
         by faults.DiskFault is r told = at status.DiskFault (text_told t) told.0 (λ e. cc) (cause is, told.1)
         by faults.Memory is r told = absurd told
         by (faults.WrongShape kept came) is r told = absurd told

@@ -16,10 +16,14 @@ mod capture;
 mod ending;
 mod list;
 mod looking;
+#[cfg(test)]
+mod read_tests;
 mod rebuild;
 mod refusal;
 mod reporting;
 mod run;
+#[cfg(test)]
+mod run_tests;
 mod status;
 mod storing;
 mod telling;

@@ -18,7 +18,12 @@ use scenario_text::{Scenario, read};
 use std::alloc::Global;
 
 // Runs a scenario over the book of a disk, which is handed back, and writes what there is to tell.
-fn run_over<K: Sink, D: Disk>(alloc: Global, scenario: &Scenario, sink: &mut K, disk: D) -> (Status, D)
+fn run_over<K: Sink, D: Disk>(
+    alloc: Global,
+    scenario: &Scenario,
+    sink: &mut K,
+    disk: D,
+) -> (Status, D)
     ensures ends { RunsFrom D.honest D.seen D.images D.moment D.since D.faults scenario.now
         (change K.written K.faults sink.old sink.new) disk result.1 result.0 }
     ensures whole { IsWhole scenario.now }

@@ -129,7 +129,14 @@ pub(crate) fn store_all<D: Disk>(
         let host = &hosts[at];
         let arrived = arrivals.arrived(at as u16);
         let pass = at as u32 + 1;
-        store_host(alloc, host.name, pass, arrived, journal, &mut progress.taken)?;
+        store_host(
+            alloc,
+            host.name,
+            pass,
+            arrived,
+            journal,
+            &mut progress.taken,
+        )?;
         match progress.full.push(progress.taken) {
             Ok(()) => {}
             Err(_) => return Err(ApplyFault::Memory),

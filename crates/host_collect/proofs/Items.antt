@@ -109,8 +109,7 @@ goes_on cs given r [] has =
     (list_of (held_upload r), ap (λ (x : List Column). numbered r.host (cut x)) (append-nil cs) ∙ sym has.cut)
 goes_on cs given r (c ∷ more) has =
     let x = with_item r c in
-    let on = goes_on (cs ++ c ∷ []) (given ++ list_of x.0) x.1 more (law.more cs given r x.1 c x.0 has refl) in
-    (
+    let on = goes_on (cs ++ c ∷ []) (given ++ list_of x.0) x.1 more (law.more cs given r x.1 c x.0 has refl) in (
       list_of x.0 ++ on.0,
       ap (λ (l : List Column). numbered r.host (cut l)) (sym (append_assoc cs (c ∷ []) more))
           ∙ ap (λ (h : ℕ). numbered h (cut ((cs ++ c ∷ []) ++ more))) (sym (same_host r c)) ∙ on.1 ∙ append_assoc given (list_of x.0) on.0,

@@ -1,1 +1,6 @@
 pub mod Replies
+pub mod Turning
+pub mod Closing
+pub mod Keeping
+pub mod Crossing
+pub mod Told

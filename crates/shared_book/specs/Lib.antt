@@ -1,1 +1,5 @@
 pub mod Replying
+pub mod Going
+pub mod Passes
+pub mod Steps
+pub mod Answering

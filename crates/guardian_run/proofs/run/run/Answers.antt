@@ -1,5 +1,4 @@
-use Rattle.std.proofs.Common.{refl, subst, arith}
-use Rattle.scenario_parts.specs.Whole.{IsWhole}
+use Rattle.std.proofs.Common.{refl, subst}
 use Rattle.book_laws.proofs.Leaving.{standing}
 use Rattle.guardian_run.specs.Changes.{change}
 use Rattle.guardian_run.specs.Ending.{EndsRefused}

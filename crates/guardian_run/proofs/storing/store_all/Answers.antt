@@ -55,8 +55,7 @@ returns-in-Err-clause-stopped g c =
     let k = c.store_host.new.taken in
     let size : k ≡ length (host_turns w (at, host)) = c.in_ok-store_host.ensures.count (brought w (picked w) at) all in
     let own = turns_count w at host inside here in
-    let next = c.in_ok-store_host.ensures.taken (brought w (picked w) at) all in
-    (
+    let next = c.in_ok-store_host.ensures.taken (brought w (picked w) at) all in (
       length (first_turns w (at + 1)),
       hosts_starved w at host inside here c.args.journal.now c.loop-at.journal inv.taken c.store_host.new.journal next c.in_ok-store_host.ensures.whole
           (length (first_turns w (at + 1))) refl,

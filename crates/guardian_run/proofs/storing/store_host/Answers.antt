@@ -1,4 +1,4 @@
-use Rattle.std.proofs.Common.{◌≡◌, ◌≤◌, ◌+◌, List, length, take, slice_index_or, arith, sym, subst, ◌∙◌}
+use Rattle.std.proofs.Common.{◌≤◌, ◌+◌, length, take, slice_index_or, arith, sym, subst, ◌∙◌}
 use Rattle.std.proofs.lemmas.List.{length-take}
 use Rattle.std.proofs.lemmas.Result.{err_from_is_err_and}
 use Rattle.lg_model.proofs.Pairing.{matched_at, matched_length}
@@ -64,16 +64,16 @@ loop-item-preserved g c =
     elim c.match-branch-2.branch [
       | in-Some+in_ok-take w ↦
           subst (λ j. HasCome g.D.Disk.honest g.D.Disk.seen g.D.Disk.images g.D.Disk.moment g.D.Disk.since g.D.Disk.faults c.args.pass c.args.host
-              (take (i + 1) c.args.arrived.now) c.args.journal.now j c.match-branch-2.taken c.push.new.cutter) (sym w.journal-is)
+          (take (i + 1) c.args.arrived.now) c.args.journal.now j c.match-branch-2.taken c.push.new.cutter) (sym w.journal-is)
           (come_some g.D.Disk.honest g.D.Disk.seen g.D.Disk.images g.D.Disk.moment g.D.Disk.since g.D.Disk.faults c.args.pass c.args.host
           c.args.arrived.now i c.loop-item-test.true c.args.journal.now c.loop-item.journal c.loop-item.taken c.loop-item.cutter c.push.new.cutter
           c.in_ok-upload.field-0 inv c.in_ok-upload.ensures sound w.in-Some.upload w.take.new.journal c.match-branch-2.taken w.in-Some.is
           w.in_ok-take.ensures.taken w.in_ok-take.ensures.whole (w.taken-is ∙ w.in_ok-take.ensures.count) w.take.ensures.keeps)
       | in_default w ↦
           subst (λ j. HasCome g.D.Disk.honest g.D.Disk.seen g.D.Disk.images g.D.Disk.moment g.D.Disk.since g.D.Disk.faults c.args.pass c.args.host
-              (take (i + 1) c.args.arrived.now) c.args.journal.now j c.match-branch-2.taken c.push.new.cutter) (sym w.journal-is)
+          (take (i + 1) c.args.arrived.now) c.args.journal.now j c.match-branch-2.taken c.push.new.cutter) (sym w.journal-is)
           (subst (λ n. HasCome g.D.Disk.honest g.D.Disk.seen g.D.Disk.images g.D.Disk.moment g.D.Disk.since g.D.Disk.faults c.args.pass c.args.host
-              (take (i + 1) c.args.arrived.now) c.args.journal.now c.loop-item.journal n c.push.new.cutter) (sym w.taken-is)
+          (take (i + 1) c.args.arrived.now) c.args.journal.now c.loop-item.journal n c.push.new.cutter) (sym w.taken-is)
           (come_none g.D.Disk.honest g.D.Disk.seen g.D.Disk.images g.D.Disk.moment g.D.Disk.since g.D.Disk.faults c.args.pass c.args.host
           c.args.arrived.now i c.loop-item-test.true c.args.journal.now c.loop-item.journal c.loop-item.taken c.loop-item.cutter c.push.new.cutter
           c.in_ok-upload.field-0 inv c.in_ok-upload.ensures sound w.in_default.is))

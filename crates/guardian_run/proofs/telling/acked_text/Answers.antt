@@ -1,4 +1,4 @@
-use Rattle.std.proofs.Common.{◌≡◌, ◌<◌, ◌+◌, ◌++◌, ◌∷◌, [], ℕ, List, length, slice_index_or, arith, sym, ap, refl, ◌∙◌, length-append}
+use Rattle.std.proofs.Common.{◌≡◌, ◌<◌, ◌+◌, ◌∷◌, [], ℕ, List, length, slice_index_or, arith, sym, ap, ◌∙◌, length-append}
 use Rattle.guardian_run.specs.Storing.{counts_of}
 use Rattle.guardian_run.proofs.Keeping.{host_known}
 use Rattle.guardian_run.proofs.HostTurns.{left_at, last_of}

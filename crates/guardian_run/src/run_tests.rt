@@ -1,0 +1,175 @@
+//! Runs over a book's file, through the top call.
+
+use crate::read_tests::{FOUR_FILE, ONE_FILE, ONE_REST};
+use crate::tests::{FOUR, ONE, joined};
+use crate::{Status, guardian};
+use lg_base::{MemorySink, MemorySource};
+use lg_disk::{Choice, MemoryDisk};
+use std::alloc::Global;
+use std::test::Fail;
+
+// The file of a book with no record, for ONE's network.
+const EMPTY_FILE: &[u8] = b"\x01LGB1\x02\x00\x01\x00\x00\x00\x00\x00\x00\x00\x00\x00\x00";
+
+// ONE's column of epoch 0 and then that of epoch 1, each in a record of its own.
+const TWO_EPOCHS: &[u8] = b"\x01LGB1\x02\x00\x01\x00\x00\x00\x00\x00\x00\x00\x00\x00\x01\
+    \x00\x01\x00\x00\x00\x00\x01\x00\x01\x00\x00\x00\x00\x00\x00\x00\x00\x05\xdc\x00\x14\x00\x00\x05\xdc\x00\x14\x01\
+    \x00\x01\x00\x00\x00\x00\x01\x00\x01\x00\x00\x00\x01\x00\x00\x00\x00\x02\xbc\x00\x09\x00\x00\x02\xbc\x00\x09\x00";
+
+// FOUR's columns 0 and 1, brought first by the uploads 0 and 2.
+const LATE_FILE: &[u8] = b"\x01LGB1\x02\x00\x02\x00\x00\x00\x00\x00\x00\x00\x00\x00\x01\
+    \x00\x01\x00\x00\x00\x00\x01\x00\x01\x00\x00\x00\x00\x00\x00\x00\x00\x00\x96\x00\x1e\x00\x00\x00\x32\x00\x1e\x01\
+    \x00\x01\x00\x00\x00\x02\x01\x00\x01\x00\x00\x00\x00\x00\x01\x00\x00\x00\x00\x00\x00\x00\x00\x00\x64\x00\x0a\x00";
+
+// FOUR's column 1 with another sum in row 1; and the same with column 0 in a second record.
+const OTHER_FILE: &[u8] = b"\x01LGB1\x02\x00\x02\x00\x00\x00\x00\x00\x00\x00\x00\x00\x01\
+    \x00\x07\x00\x00\x00\x00\x01\x00\x01\x00\x00\x00\x00\x00\x01\x00\x00\x00\x00\x00\x00\x00\x00\x00\x65\x00\x0a\x00";
+
+const OTHER_AND_LATE: &[u8] = b"\x01LGB1\x02\x00\x02\x00\x00\x00\x00\x00\x00\x00\x00\x00\x01\
+    \x00\x07\x00\x00\x00\x00\x01\x00\x01\x00\x00\x00\x00\x00\x01\x00\x00\x00\x00\x00\x00\x00\x00\x00\x65\x00\x0a\x01\
+    \x00\x01\x00\x00\x00\x00\x01\x00\x01\x00\x00\x00\x00\x00\x00\x00\x00\x00\x96\x00\x1e\x00\x00\x00\x32\x00\x1e\x00";
+
+// Column 0 comes three times before column 1, in three uploads.
+const LATE_REST: &str =
+    "packet 1 100 10\npacket 2 50 30\nend 1\npacket 1 10 1 twice\npacket 1 10 1 late\n\
+    packet 1 10 1 late\nrelease\nask 1 1 0\nask 2 1 0\nask 3 1 0\ndone\n";
+
+// Two hosts, each with a column of its own.
+const HOSTS: &str = "guardian 1\nshape 2 2 ports\npick turns\nhost 1\nhost 2\nswitch 1\n\
+    flow 1 10.0.0.1 10.0.0.2 6 2 1 host 1 path 1\nflow 2 10.0.0.1 10.0.0.2 6 2 2 host 2 path 1\n\
+    packet 1 100 10\nend 1\npacket 1 10 1\npacket 2 10 1\nask 1 1 0\ndone\n";
+
+// The status and the output of a command over a disk, and the disk.
+fn told(
+    alloc: Global,
+    word: &str,
+    text: Vec<u8>,
+    disk: MemoryDisk,
+) -> Result<(Status, Vec<u8>, MemoryDisk), Fail> {
+    let words = [String::from_str(alloc, word)?];
+    let mut source = MemorySource::new(text, 4096, Vec::new(alloc));
+    let mut sink = MemorySink::new(alloc, 4096, Vec::new(alloc));
+    let (status, disk) = guardian(alloc, &words, &mut source, &mut sink, disk);
+    Ok((status, sink.bytes().to_vec(alloc)?, disk))
+}
+
+#[test]
+fn runs_over_a_file(rt: HostRuntime) -> Result<(), Fail> {
+    let alloc = rt.alloc();
+    let known = "flow 1 switch 1 epoch 0 rows 2 of 2 bytes 1500 delay 20\ncolumns 1\n";
+    let unknown = "flow 1 switch 1 epoch 0 rows 0 of 2 bytes unknown delay unknown\ncolumns 0\n";
+    let late = "flow 1 switch 1 epoch 0 rows 2 of 2 bytes 100 delay 10\n\
+        flow 2 switch 1 epoch 0 rows 2 of 2 bytes 50 delay 30\n\
+        flow 3 switch 1 epoch 0 rows 2 of 2 bytes 0 delay 0\ncolumns 2\n";
+    let nothing = "packet 1 1500 20\nend 1\nask 1 1 0\ndone\n";
+    let dearer = "packet 1 1600 20\nend 1\npacket 1 100 5\nask 1 1 0\ndone\n";
+    let differs =
+        "guardian: conflict at switch 1 epoch 0 column 0 kept 1500 20 1500 20 came 1600 20 1600 20\n";
+    let foreign =
+        "end 1\npacket 1 700 9 lost 1\nend 1\npacket 1 100 5\nask 1 1 0\nask 1 1 1\ndone\n";
+    let both = "flow 1 switch 1 epoch 0 rows 2 of 2 bytes 1500 delay 20\n\
+        flow 1 switch 1 epoch 1 rows 2 of 2 bytes 700 delay 9\ncolumns 2\n";
+    let third = "acked 1 0\nacked 1 1\n\
+        guardian: conflict at switch 1 epoch 0 column 1 kept 0 0 101 10 came 0 0 100 10\n";
+    let other = "guardian: shape 2 2 ports in the book, 2 1 ports asked\n";
+    let damaged = "guardian: damaged at 45\n";
+    let no_journal = "guardian: not a journal\n";
+    let nineteen: &[u8] = &[0; 19];
+    let cut_off = &ONE_FILE[..45];
+    for (head, rest, before, status, output, after) in [
+        (ONE, ONE_REST, b"".as_slice(), Status::Ok, known, ONE_FILE),
+        (ONE, nothing, b"", Status::Ok, unknown, EMPTY_FILE),
+        (ONE, ONE_REST, ONE_FILE, Status::Ok, known, ONE_FILE),
+        (ONE, dearer, ONE_FILE, Status::Conflict, differs, ONE_FILE),
+        (ONE, foreign, ONE_FILE, Status::Ok, both, TWO_EPOCHS),
+        (FOUR, LATE_REST, b"", Status::Ok, late, LATE_FILE),
+        (FOUR, LATE_REST, LATE_FILE, Status::Ok, late, LATE_FILE),
+        (
+            FOUR,
+            LATE_REST,
+            OTHER_FILE,
+            Status::Conflict,
+            third,
+            OTHER_AND_LATE,
+        ),
+        (
+            ONE,
+            ONE_REST,
+            FOUR_FILE,
+            Status::WrongShape,
+            other,
+            FOUR_FILE,
+        ),
+        (ONE, ONE_REST, cut_off, Status::Damaged, damaged, cut_off),
+        (
+            ONE,
+            ONE_REST,
+            nineteen,
+            Status::NotAJournal,
+            no_journal,
+            nineteen,
+        ),
+    ] {
+        let disk = MemoryDisk::new(alloc, before.to_vec(alloc)?)?;
+        let (found, written, disk) = told(alloc, "run", joined(alloc, head, rest)?, disk)?;
+        assert_eq!(rt; found, status, "{rest}");
+        assert_eq!(rt; written.as_slice(), output.as_bytes());
+        assert_eq!(rt; disk.bytes(), after);
+    }
+    Ok(())
+}
+
+// The lists of a book of no column, of host 1's and of both.
+const LISTS: [&str; 3] = [
+    "columns 0\n",
+    "column 1 0 0 100 10 0 0\ncolumns 1\n",
+    "column 1 0 0 100 10 0 0\ncolumn 1 0 1 0 0 100 10\ncolumns 2\n",
+];
+
+// How many columns the list of a file shows.
+fn listed(alloc: Global, file: Vec<u8>) -> Result<usize, Fail> {
+    let disk = MemoryDisk::new(alloc, file)?;
+    let (status, written, _) = told(alloc, "list", Vec::new(alloc), disk)?;
+    if status != Status::Ok {
+        return Err("no list".into());
+    }
+    for at in 0..3 {
+        if written.as_slice() == LISTS[at].as_bytes() {
+            return Ok(at);
+        }
+    }
+    Err("another list".into())
+}
+
+// A sync and the length, the calls of creation, and four for each host's upload: each one fails in turn, with all after it.
+#[test]
+fn stopped_at_each_call(rt: HostRuntime) -> Result<(), Fail> {
+    let alloc = rt.alloc();
+    let first = "guardian: disk fault\n";
+    let second = "acked 1 0\nguardian: disk fault\n";
+    let answer = "flow 1 switch 1 epoch 0 rows 2 of 2 bytes 100 delay 10\ncolumns 2\n";
+    for k in 0..=18 {
+        let mut disk = MemoryDisk::new(alloc, Vec::new(alloc))?;
+        disk.stop_after(k);
+        let (status, written, disk) = told(alloc, "run", joined(alloc, HOSTS, "")?, disk)?;
+        let (want, output, kept) = if k < 14 {
+            (Status::DiskFault, first, 0)
+        } else if k < 18 {
+            (Status::DiskFault, second, 1)
+        } else {
+            (Status::Ok, answer, 2)
+        };
+        assert_eq!(rt; (status, written.as_slice()), (want, output.as_bytes()));
+        for choice in [
+            Choice::AsRead,
+            Choice::AsSynced,
+            Choice::FillLong(1),
+            Choice::FillShort(1),
+            Choice::FillLong(255),
+        ] {
+            let found = listed(alloc, disk.image(&choice)?)?;
+            assert!(rt; found == kept || found == kept + 1);
+        }
+    }
+    Ok(())
+}

@@ -1,0 +1,4 @@
+pub mod Views
+pub mod Rules
+pub mod Plays
+pub mod Closing

@@ -1,0 +1,36 @@
+use Rattle.std.proofs.Common.{rules, refl, sym, ap, ◌∙◌, List, None}
+use Rattle.column_book.specs.declared.entry.Entry.{Entry}
+use Rattle.book_journal.specs.Runs.{JournalState}
+use Rattle.lock_rule.specs.declared.view.Doing.TheVariants.{Has}
+use Rattle.lock_rule.specs.Plays.{entries_held}
+use Rattle.lock_rule.proofs.Turning.{passes}
+use Rattle.lock_rule.proofs.Changing.{commits}
+use Rattle.shared_book.specs.Going.{GoesOn}
+use Rattle.shared_book.proofs.turns.pass_on_stored.Goals as goal
+
+pub fetch_add-requires : goal.fetch_add-requires
+fetch_add-requires g c =
+    let held = c.give_back.ensures.held in
+    let st = c.requires.stored in (
+      search rules,
+      search rules,
+      commits (λ (j : JournalState g.row.D.Denot). j.entries) (λ (j : JournalState g.row.D.Denot). j.fault)
+          (GoesOn g.D.Disk.honest g.D.Disk.seen g.D.Disk.images g.D.Disk.moment g.D.Disk.since g.D.Disk.faults c.args.top.now.key.value) c.args.top.now.key.value.entries _ _ _
+          st.0 st.1 st.2 c.args.journal (ap (λ m. m.0.live) held ∙ c.requires.live) (ap (λ m. m.0.doing) held ∙ st.3) (ap (λ m. m.1) held)
+          st.4 (st.5 ∙ sym (ap (λ m. m.0.number) held)) st.6,
+    )
+
+pub fetch_add-requires-2 : goal.fetch_add-requires-2
+fetch_add-requires-2 g c =
+    let held = c.give_back.ensures.held in
+    let st = c.requires.stored in
+    let did = c.fetch_add.ensures.2 st.0 st.1 None (ap (λ m. m.0.doing) held ∙ st.3) in (
+      search rules,
+      search rules,
+      passes (λ (j : JournalState g.row.D.Denot). j.entries) (λ (j : JournalState g.row.D.Denot). j.fault)
+          (GoesOn g.D.Disk.honest g.D.Disk.seen g.D.Disk.images g.D.Disk.moment g.D.Disk.since g.D.Disk.faults c.args.top.now.key.value) c.args.top.now.key.value.entries _ _ _
+          st.0 c.args.journal.entries None c.args.journal
+          (ap (λ v. v.live) did.0 ∙ (ap (λ m. m.0.live) held ∙ c.requires.live))
+          (ap (λ v. v.doing) did.0 ∙ ap (λ (es : List Entry). Has st.0 es None) (ap (λ m. entries_held (λ (j : JournalState g.row.D.Denot). j.entries) (λ (j : JournalState g.row.D.Denot). j.fault) (GoesOn g.D.Disk.honest g.D.Disk.seen g.D.Disk.images g.D.Disk.moment g.D.Disk.since g.D.Disk.faults c.args.top.now.key.value) m.1) held))
+          (did.1 ∙ ap (λ m. m.1) held) refl c.requires.whole c.requires.goes,
+    )
