@@ -41,15 +41,18 @@ first_below f m a (suc k) (suc n) is low =
 host_lines : (w : Scenario) (counts : List ℕ) (h : ℕ) (host : HostLine) → slice_index_or counts h 0 ≤ length (uploads_at w h) →
     acked_of w (acks_of counts) (h, host) ≡ flat_map (acked_line host.name) (range_with_len 0 (slice_index_or counts h 0))
 host_lines w counts h host few =
-    first_below (acked_line host.name) (slice_index_or counts h 0) 0 (slice_index_or counts h 0) (length (uploads_at w h)) (sym (zero-add (slice_index_or counts h 0))) few
+    first_below (acked_line host.name) (slice_index_or counts h 0) 0 (slice_index_or counts h 0) (length (uploads_at w h))
+    (sym (zero-add (slice_index_or counts h 0))) few
 
 -- ---- all hosts
 
-no_lines : (w : Scenario) (counts : List ℕ) (h : ℕ) (hosts : List HostLine) → length counts ≤ h → flat_map (acked_of w (acks_of counts)) (enumerate_from h hosts) ≡ []
+no_lines : (w : Scenario) (counts : List ℕ) (h : ℕ) (hosts : List HostLine) → length counts ≤ h →
+    flat_map (acked_of w (acks_of counts)) (enumerate_from h hosts) ≡ []
 no_lines w counts h [] far = refl
 no_lines w counts h (host ∷ hosts) far =
     let none = get_or-eq_default counts 0 far in
-    (λ j. flat_map (below (acked_line host.name) (none j)) (range_with_len 0 (length (uploads_at w h))) ++ flat_map (acked_of w (acks_of counts)) (enumerate_from (h + 1) hosts))
+    (λ j. flat_map (below (acked_line host.name) (none j)) (range_with_len 0 (length (uploads_at w h))) ++ flat_map (acked_of w (acks_of counts))
+    (enumerate_from (h + 1) hosts))
     ∙ (λ j. none_below (acked_line host.name) 0 0 (length (uploads_at w h)) (omega arith) j ++ no_lines w counts (h + 1) hosts (omega (arith, far)) j)
 
 -- the lines of the first n hosts
@@ -65,7 +68,8 @@ few_each w counts m h are low = by (cases_lt h are.at)
         let here : are.at ≡ h = omega (arith, after, low, are.last) in
         subst (λ i. slice_index_or counts i 0 ≤ length (uploads_at w i)) here are.some
 
-pub lines_next : (w : Scenario) (counts : List ℕ) (m n k : ℕ) (host : HostLine) (old new : List ℕ) → AreCounts w counts m → n < length counts → n < length w.hosts →
+pub lines_next : (w : Scenario) (counts : List ℕ) (m n k : ℕ) (host : HostLine) (old new : List ℕ) → AreCounts w counts m → n < length counts →
+    n < length w.hosts →
     slice_index_or w.hosts n host ≡ host → slice_index_or counts n 0 ≡ k → old ≡ first_lines w counts n →
     new ≡ old ++ flat_map (acked_line host.name) (range_with_len 0 k) → new ≡ first_lines w counts (n + 1)
 lines_next w counts m n k host old new are low inside here count before put =

@@ -248,8 +248,10 @@ refusal_short r s (inr h) short = inr h
 refusal_short r s (inl h) (inl is) = inl (h ∙ ap status_of (one_refusal r refusals.ReadFault is))
 refusal_short r s (inl h) (inr is) = inr (h ∙ ap status_of (one_refusal r refusals.Memory is))
 
-ended : (command : Command) (source sink : Change) (disk : DiskChange) (s : Status) (r : Refusal) (line : List ℕ) (gives : Gives (Some command) source disk (Err r)) →
-    (s ≡ status_of r) ⊎ (s ≡ status.NoMemory) → (IsOutputEnd s → ⊥) → IsAnswered (Some command) gives.said gives.file source sink disk s line → Puts s sink line →
+ended : (command : Command) (source sink : Change) (disk : DiskChange) (s : Status) (r : Refusal) (line : List ℕ)
+    (gives : Gives (Some command) source disk (Err r)) →
+    (s ≡ status_of r) ⊎ (s ≡ status.NoMemory) → (IsOutputEnd s → ⊥) → IsAnswered (Some command) gives.said gives.file source sink disk s line →
+    Puts s sink line →
     Ends (Some command) source sink disk s
 ended command source sink disk s r line gives at far answers puts = record {
   said = gives.said;
@@ -349,13 +351,15 @@ pub ends_unread : (asked : Option Command) (source sink : Change) (disk : DiskCh
 ends_unread asked source sink disk s none left same calm end = subst (λ a. Ends a source sink disk s) (sym none) (by end)
   where
     by : EndsRefused refusals.BadWords sink s → Ends None source sink disk s
-    by (inl e) = subst (λ t. Ends None source sink disk t) (sym e.0) (at_bad_words source sink disk left same calm (subst (λ t. Puts t sink usage_line) e.0 e.1))
+    by (inl e) = subst (λ t. Ends None source sink disk t) (sym e.0)
+        (at_bad_words source sink disk left same calm (subst (λ t. Puts t sink usage_line) e.0 e.1))
     by (inr e) = absurd e.0
 
 -- ---- what a command gave
 
 -- a command that reads a text alone
-free_text : (asked : Option Command) (source : Change) (disk : DiskChange) (o : Outcome) → reads_text asked ≡ true → IsUnread source o → IsFree asked source disk o
+free_text : (asked : Option Command) (source : Change) (disk : DiskChange) (o : Outcome) → reads_text asked ≡ true → IsUnread source o →
+    IsFree asked source disk o
 free_text asked source disk o reads (inl h) = inl (h.0, reads, h.1)
 free_text asked source disk o reads (inr h) = inr (inr h)
 
@@ -363,7 +367,8 @@ short_text : (source : Change) (o : Outcome) → IsUnread source o → ShortOf o
 short_text source o (inl h) = inl h.0
 short_text source o (inr h) = inr h
 
-pub given_text : (command : Command) (next : Scenario → Outcome → Type 0) (source : Change) (disk : DiskChange) (o : Outcome) → reads_text (Some command) ≡ true →
+pub given_text : (command : Command) (next : Scenario → Outcome → Type 0) (source : Change) (disk : DiskChange) (o : Outcome) →
+    reads_text (Some command) ≡ true →
     ((said : Result Scenario Fault) → WithScenario next said o → Comes (Some command) said disk.seen o) →
     ((said : Result Scenario Fault) → IfOk said IsTrueRun → IsTrueOutput (Some command) said disk.seen) →
     disk.faults_old ≤ disk.faults_new → GivesOfText next source o → Gives (Some command) source disk o
@@ -378,7 +383,8 @@ given_text command next source disk o reads comes true_of calm gives = record {
   ];
   draws = record {
     unread = λ e. absurd (both_ways (reads_text (Some command)) reads e);
-    took = λ _. elim gives.took as (λ _. ShortOf o ⊎ IfSome source.old (λ input. IsTaken input source.new)) [ inl h ↦ inl (short_text source o h) | inr h ↦ inr h ];
+    took = λ _. elim gives.took as (λ _. ShortOf o
+        ⊎ IfSome source.old (λ input. IsTaken input source.new)) [ inl h ↦ inl (short_text source o h) | inr h ↦ inr h ];
     never_falls = gives.never_falls;
   };
   disk_never_falls = calm;
@@ -389,11 +395,13 @@ given_text command next source disk o reads comes true_of calm gives = record {
     both_ways b yes_is no_is = absurd (cc (sym yes_is ∙ no_is))
 
 -- a command that looks at the file alone
-free_file : (asked : Option Command) (source : Change) (disk : DiskChange) (o : Outcome) → looks_at_file asked ≡ true → IsUnlooked disk o → IsFree asked source disk o
+free_file : (asked : Option Command) (source : Change) (disk : DiskChange) (o : Outcome) → looks_at_file asked ≡ true → IsUnlooked disk o →
+    IsFree asked source disk o
 free_file asked source disk o looks (inl h) = inr (inl (h.0, looks, h.1))
 free_file asked source disk o looks (inr h) = inr (inr h)
 
-pub given_file : (command : Command) (next : List ℕ → Outcome → Type 0) (source : Change) (disk : DiskChange) (o : Outcome) → looks_at_file (Some command) ≡ true →
+pub given_file : (command : Command) (next : List ℕ → Outcome → Type 0) (source : Change) (disk : DiskChange) (o : Outcome) →
+    looks_at_file (Some command) ≡ true →
     reads_text (Some command) ≡ false →
     ((said : Result Scenario Fault) (file : List ℕ) → next file o → Comes (Some command) said file o) →
     ((said : Result Scenario Fault) (file : List ℕ) → IsTrueOutput (Some command) said file) →
@@ -420,9 +428,11 @@ pub ends_given : {T : Type 0} →
     asked ≡ Some command →
     IfOk given (λ text. Gives (Some command) source disk (Ok (items text))) → IfErr given (λ r. Gives (Some command) source disk (Err r)) →
     IfOk given (λ text. EndsWith (items text) sink s) → IfErr given (λ r. EndsRefused r sink s) → Ends asked source sink disk s
-ends_given {T} items asked command source sink disk s given same has is done end = subst (λ a. Ends a source sink disk s) (sym same) (either given has is done end)
+ends_given {T} items asked command source sink disk s given same has is done end = subst (λ a. Ends a source sink disk s) (sym same)
+    (either given has is done end)
   where
-    either : (given : Result T Refusal) → IfOk given (λ text. Gives (Some command) source disk (Ok (items text))) → IfErr given (λ r. Gives (Some command) source disk (Err r)) →
+    either : (given : Result T Refusal) → IfOk given (λ text. Gives (Some command) source disk (Ok (items text))) →
+        IfErr given (λ r. Gives (Some command) source disk (Err r)) →
         IfOk given (λ text. EndsWith (items text) sink s) → IfErr given (λ r. EndsRefused r sink s) → Ends (Some command) source sink disk s
     either (Ok text) has _ done _ = ends_output command source sink disk s (items text) has done
     either (Err r) _ is _ end = ends_refused command source sink disk s r is end
@@ -436,7 +446,8 @@ both_given items (Err r) P Q move has is = (tt, move (Err r) is)
 
 -- the same of a command that needs one thing alone
 pub ends_by : {T : Type 0} →
-    (items : T → List ℕ) (asked : Option Command) (command : Command) (source sink : Change) (disk : DiskChange) (s : Status) (given : Result T Refusal) (P : Outcome → Type 0) →
+    (items : T → List ℕ) (asked : Option Command) (command : Command) (source sink : Change) (disk : DiskChange) (s : Status)
+    (given : Result T Refusal) (P : Outcome → Type 0) →
     asked ≡ Some command → ((o : Outcome) → P o → Gives (Some command) source disk o) →
     IfOk given (λ text. P (Ok (items text))) → IfErr given (λ r. P (Err r)) →
     IfOk given (λ text. EndsWith (items text) sink s) → IfErr given (λ r. EndsRefused r sink s) → Ends asked source sink disk s

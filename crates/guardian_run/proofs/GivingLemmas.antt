@@ -280,7 +280,8 @@ ask_unread source disk o calm gives never = record {
 }
 
 -- the scenario is there, and the book
-pub ask_answered : (source : Change) (disk : DiskChange) (w : Scenario) (shape : Shape) (rs : List UploadData) (text : List ℕ) → shape ≡ w.shape → LawOfTrueBooks →
+pub ask_answered : (source : Change) (disk : DiskChange) (w : Scenario) (shape : Shape) (rs : List UploadData) (text : List ℕ) → shape ≡ w.shape →
+    LawOfTrueBooks →
     IfSome source.old (λ input. reading input ≡ Ok w) → IfSome source.old (λ input. IsTaken input source.new) → IsWhole w →
     IsHeld disk (λ file. HasRecords file shape rs) → text ≡ report (content_in rs) w →
     source.faults_old ≤ source.faults_new → disk.faults_old ≤ disk.faults_new → Gives (Some commands.Ask) source disk (Ok text)

@@ -57,7 +57,8 @@ module _ (pass host : ℕ) (arrived : List Packed) (cs : List Column) (all : Mat
       let long = length-take i arrived in
       let both = ap length front.1 in
       let parts = length-append keeps.0 front.0 in
-      ap (λ (x : List Column). numbered host (cut x)) (front.1 ∙ ap (λ (x : List Column). keeps.0 ++ x) (empty front.0 (omega (arith, end, size, some, long, both, parts)))
+      ap (λ (x : List Column). numbered host (cut x)) (front.1
+      ∙ ap (λ (x : List Column). keeps.0 ++ x) (empty front.0 (omega (arith, end, size, some, long, both, parts)))
       ∙ append-nil keeps.0)
       ∙ ap (λ h. numbered h (cut keeps.0)) (sym keeps.3) ∙ sym keeps.2.cut
     where
@@ -73,7 +74,8 @@ module _ (pass host : ℕ) (arrived : List Packed) (cs : List Column) (all : Mat
     pub host_starved : items.Keeps host (take i arrived) given r → now.fault ≡ None → HasStopped (turns_with pass host cs) n old now faults.Memory
     host_starved keeps whole =
         let f = given_front i given r keeps in
-        subst (λ (ts : List Turn). HasStopped ts n old now faults.Memory) (sym f.1) (starved_after (turned pass given) (turned pass f.0) n old now taken whole long)
+        subst (λ (ts : List Turn). HasStopped ts n old now faults.Memory) (sym f.1)
+        (starved_after (turned pass given) (turned pass f.0) n old now taken whole long)
 
     pub host_stopped : (u : UploadData) (f : ApplyFault) (new : JournalState D) → items.Keeps host (take i arrived) (given ++ u ∷ []) r →
         HasStopped ((pass, u) ∷ []) 0 now new f → HasStopped (turns_with pass host cs) n old new f
@@ -176,7 +178,8 @@ abbrev pub first_turns : Scenario → (n : ℕ) → List Turn
 first_turns w n = flat_map (host_turns w) (enumerate_from 0 (take n w.hosts))
 
 -- the turns of all hosts begin with those of the first ones
-pub turns_begin : (w : Scenario) (n : ℕ) → turns_of w ≡ first_turns w n ++ flat_map (host_turns w) (enumerate_from (0 + length (take n w.hosts)) (drop n w.hosts))
+pub turns_begin : (w : Scenario) (n : ℕ) →
+    turns_of w ≡ first_turns w n ++ flat_map (host_turns w) (enumerate_from (0 + length (take n w.hosts)) (drop n w.hosts))
 turns_begin w n =
     ap (λ (hs : List HostLine). flat_map (host_turns w) (enumerate_from 0 hs)) (sym (take-append-drop n w.hosts))
     ∙ ap (flat_map (host_turns w)) (enumerate_from-append 0 (take n w.hosts) (drop n w.hosts))
@@ -195,7 +198,8 @@ module _ {D : Type 0} (w : Scenario) (n : ℕ) (host : HostLine) (inside : n < l
   next_turns = host_more (host_turns w) w.hosts n host inside ∙ ap (λ (h : HostLine). first_turns w n ++ host_turns w (n, h)) here
 
   pub hosts_next : (new : JournalState D) → HasTaken (host_turns w (n, host)) now new → HasTaken (first_turns w (n + 1)) old new
-  hosts_next new next = subst (λ (ts : List Turn). HasTaken ts old new) (sym next_turns) (taken_more (first_turns w n) (host_turns w (n, host)) old now new taken next)
+  hosts_next new next = subst (λ (ts : List Turn). HasTaken ts old new) (sym next_turns)
+      (taken_more (first_turns w n) (host_turns w (n, host)) old now new taken next)
 
   pub hosts_stopped : (k m : ℕ) (f : ApplyFault) (new : JournalState D) → HasStopped (host_turns w (n, host)) k now new f → length (first_turns w n) + k ≡ m →
       HasStopped (turns_of w) m old new f

@@ -73,14 +73,17 @@ host_more f hs n d h =
     let x = slice_index_or hs n d in
     let front : length (take n hs) ≡ n = omega (arith, length-take n hs) in
     ap (λ xs. flat_map f (enumerate_from 0 xs)) (take_more hs n d h)
-    ∙ ap (flat_map f) (enumerate_from-append 0 (take n hs) (x ∷ []) ∙ ap (λ (k : ℕ). enumerate_from 0 (take n hs) ++ (k, x) ∷ []) (zero-add (length (take n hs)) ∙ front))
+    ∙ ap (flat_map f) (enumerate_from-append 0 (take n hs) (x ∷ [])
+    ∙ ap (λ (k : ℕ). enumerate_from 0 (take n hs) ++ (k, x) ∷ []) (zero-add (length (take n hs)) ∙ front))
     ∙ flat_map-append f (enumerate_from 0 (take n hs)) ((n, x) ∷ [])
     ∙ ap (λ xs. flat_map f (enumerate_from 0 (take n hs)) ++ xs) (append-nil (f (n, x)))
 
 -- the lines of one host more
-pub lines_more : (w : Scenario) (n : ℕ) (d : HostLine) (old new : List ℕ) → n < length w.hosts → old ≡ flat_map (host_lines w) (enumerate_from 0 (take n w.hosts)) →
+pub lines_more : (w : Scenario) (n : ℕ) (d : HostLine) (old new : List ℕ) → n < length w.hosts →
+    old ≡ flat_map (host_lines w) (enumerate_from 0 (take n w.hosts)) →
     new ≡ old ++ host_lines w (n, slice_index_or w.hosts n d) → new ≡ flat_map (host_lines w) (enumerate_from 0 (take (n + 1) w.hosts))
-lines_more w n d old new h before put = put ∙ ap (λ xs. xs ++ host_lines w (n, slice_index_or w.hosts n d)) before ∙ sym (host_more (host_lines w) w.hosts n d h)
+lines_more w n d old new h before put = put ∙ ap (λ xs. xs ++ host_lines w (n, slice_index_or w.hosts n d)) before
+    ∙ sym (host_more (host_lines w) w.hosts n d h)
 
 -- the host that the code reads
 pub host_known : (w : Scenario) (n : ℕ) (hs : List HostLine) (x : HostLine) → hs ≡ w.hosts → x ≡ slice_index_or hs n x →

@@ -11,7 +11,7 @@ use Rattle.column_book.specs.Entries.{records}
 use Rattle.book_file.specs.Between.{IsBetween}
 use Rattle.book_file.specs.File.{IsBlank, StandsFor}
 use Rattle.book_journal.specs.Opening.{OpenLeaves}
-use Rattle.book_journal.specs.Runs.{JournalState, IsRun as IsJournalRun, start_of, with_fault}
+use Rattle.book_journal.specs.Runs.{JournalState, IsRun, start_of, with_fault}
 use Rattle.book_laws.specs.Legal.{in_order, IsLegal}
 use Rattle.book_laws.specs.Leaving.{IsLeft}
 use Rattle.book_laws.specs.Laws.{LawOfStanding}
@@ -23,7 +23,7 @@ one_more es (Some e) = (e.stored ∷ [], map-append (λ (x : Entry). x.stored) e
 module _ {D : Type 0} (honest : D → Type 0) (seen : D → List ℕ) (images : D → List ℕ → Type 0) (moment : D → ℕ) (since : D → ℕ → List ℕ → Type 0)
     (w : Scenario) (law : LawOfStanding) (start : D) (old new : JournalState D) (shape : new.shape ≡ w.shape)
     (before : StandsFor w.shape (records old.entries) (seen start)) (opened : OpenLeaves honest seen images moment since w.shape start old.disk)
-    (run : IsJournalRun honest seen images moment since (start_of seen moment old) new) where
+    (run : IsRun honest seen images moment since (start_of seen moment old) new) where
   abbrev pub full : List UploadData
   full = records (with_fault new.entries new.fault)
 
@@ -63,14 +63,15 @@ module _ {D : Type 0} (honest : D → Type 0) (seen : D → List ℕ) (images : 
           | inl is ↦ inl (stands_here (records new.entries) c is)
           | inr is ↦ inr (stands_here full c is)
         ];
-        moments = λ c is. elim (run.before (moment start) c opened.later is) as (λ _. images start c ⊎ IsBetween (StandsFor w.shape) (records old.entries) full c) [
-          | inl early ↦ elim (opened.each c early) as (λ _. images start c ⊎ IsBetween (StandsFor w.shape) (records old.entries) full c) [
-            | inl image ↦ inl image
-            | inr that ↦ inr (found_between c (subst (λ (l : List UploadData). StandsFor w.shape l c)
-                (law.one w.shape (seen start) that.0 (records old.entries) that.1 before) that.2))
-          ]
-          | inr between ↦ inr (between_here c between)
-        ];
+        moments = λ c is. elim (run.before (moment start) c opened.later is) as (λ _. images start c
+            ⊎ IsBetween (StandsFor w.shape) (records old.entries) full c) [
+              | inl early ↦ elim (opened.each c early) as (λ _. images start c ⊎ IsBetween (StandsFor w.shape) (records old.entries) full c) [
+                | inl image ↦ inl image
+                | inr that ↦ inr (found_between c (subst (λ (l : List UploadData). StandsFor w.shape l c)
+                    (law.one w.shape (seen start) that.0 (records old.entries) that.1 before) that.2))
+              ]
+              | inr between ↦ inr (between_here c between)
+            ];
         settled = λ was c is. elim (run.before (moment start) c opened.later is) as (λ _. IsBetween (StandsFor w.shape) (records old.entries) full c) [
           | inl early ↦ found_between c (opened.settled (records old.entries) before was c early)
           | inr between ↦ between_here c between

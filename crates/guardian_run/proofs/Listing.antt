@@ -1,5 +1,6 @@
 -- The keys of a content one after the other, and its lines.
-use Rattle.std.specs.Prelude.{◌≡◌, ℕ, zero, suc, ◌+◌, ◌<◌, Bool, true, false, cond, List, [], ◌∷◌, ◌++◌, length, take, Option, None, Some, IsSome, slice_index_or}
+use Rattle.std.specs.Prelude.{◌≡◌, ℕ, zero, suc, ◌+◌, ◌<◌, Bool, true, false, cond, List, [], ◌∷◌, ◌++◌, length, take, Option, None, Some, IsSome}
+use Rattle.std.specs.Prelude.{slice_index_or}
 use Rattle.std.specs.List.{flat_map, range_with_len}
 use Rattle.std.specs.Option.{option_map}
 use Rattle.std.specs.Ordering.{is_eq, is_lt, ordering_reverse}
@@ -176,5 +177,6 @@ pub rows_more : {X : Type 0} (f : ℕ → List X) (n : ℕ) (head old new : List
 rows_more f n head old new before put =
     put ∙ ap (λ xs. xs ++ f n) before ∙ append_assoc head (flat_map f (range_with_len 0 n)) (f n) ∙ ap (λ xs. head ++ xs) (sym (row_more f n))
 
-pub all_lines : (dims : Dims) (m : Content) (i : ℕ) (text : List ℕ) → i ≡ length m → text ≡ flat_map (pair_line dims) (take i m) → text ≡ flat_map (pair_line dims) m
+pub all_lines : (dims : Dims) (m : Content) (i : ℕ) (text : List ℕ) → i ≡ length m → text ≡ flat_map (pair_line dims) (take i m) →
+    text ≡ flat_map (pair_line dims) m
 all_lines dims m i text end is = is ∙ ap (flat_map (pair_line dims)) (take_all i m (omega (arith, end)))

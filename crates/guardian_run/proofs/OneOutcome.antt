@@ -29,7 +29,8 @@ use Rattle.guardian_run.specs.declared.refusal.Refusal.{Refusal}
 use Rattle.guardian_run.specs.declared.refusal.Refusal.TheVariants as refusals
 use Rattle.guardian_run.specs.Refusals.{file_refusal}
 use Rattle.guardian_run.specs.Outputs.{list_of, sketch_of}
-use Rattle.guardian_run.specs.Outcomes.{Outcome, HasRecords, HasFault, Asks, Lists, IsRebuilding, IsMissing, IsUnbuilt, Rebuilds, WithScenario, LawOfOutcomes, known_in}
+use Rattle.guardian_run.specs.Outcomes.{Outcome, HasRecords, HasFault, Asks, Lists, IsRebuilding, IsMissing, IsUnbuilt, Rebuilds, WithScenario}
+use Rattle.guardian_run.specs.Outcomes.{LawOfOutcomes, known_in}
 
 -- ---- a refused file
 
@@ -76,7 +77,8 @@ no_fault asked file shape rs r suits has this =
 no_blank_fault : (file : List ℕ) (r : Refusal) → IsBlank file → HasFault None file r → ⊥
 no_blank_fault file r blank this =
     let a = fault_of None file r this in
-    let same : Ok Blank ≡ Err a.fault = one_answer None ROOM file (Ok Blank) (Err a.fault) blank a.finds (λ e. cc) (λ e. a.told (one_error a.fault faults.Memory e)) in
+    let same : Ok Blank ≡ Err a.fault = one_answer None ROOM file (Ok Blank) (Err a.fault) blank a.finds (λ e. cc)
+    (λ e. a.told (one_error a.fault faults.Memory e)) in
     absurd (cc same)
 
 -- ---- a file with records
@@ -173,7 +175,8 @@ never_built s e file text r this (faulty f that) = no_fault None file this.shape
 
 one_ask : (file : List ℕ) (w : Scenario) (a b : Outcome) → Asks file w a → Asks file w b → a ≡ b
 one_ask file w (Ok x) (Ok y) this that =
-    ap (λ (t : List ℕ). Ok t) (this.is ∙ ap (λ (rs : List UploadData). report (content_in rs) w) (one_list file w.shape this.rs that.rs this.has.stands that.has.stands)
+    ap (λ (t : List ℕ). Ok t) (this.is
+    ∙ ap (λ (rs : List UploadData). report (content_in rs) w) (one_list file w.shape this.rs that.rs this.has.stands that.has.stands)
     ∙ sym that.is)
 one_ask file w (Ok x) (Err q) this that = absurd (no_fault (Some w.shape) file w.shape this.rs q refl this.has that)
 one_ask file w (Err r) (Ok y) this that = absurd (no_fault (Some w.shape) file w.shape that.rs r refl that.has this)

@@ -24,7 +24,7 @@ use Rattle.book_file.specs.File.{IsBlank, StandsFor}
 use Rattle.book_journal.specs.Crashes.{OnlyReads}
 use Rattle.book_journal.specs.Looking.{Reads}
 use Rattle.book_journal.specs.Opening.{OpenLeaves, IsRefused}
-use Rattle.book_journal.specs.Runs.{JournalState, IsRun as IsJournalRun, start_of, with_fault}
+use Rattle.book_journal.specs.Runs.{JournalState, IsRun, start_of, with_fault}
 use Rattle.run_laws.specs.Truth.{IsFrozenColumn, book_of}
 use Rattle.run_laws.proofs.Agreeing.{cells_at}
 use Rattle.run_laws.proofs.True.{true_run}
@@ -45,7 +45,7 @@ use Rattle.guardian_run.specs.Outcomes.{HasFault}
 use Rattle.guardian_run.specs.Ends.{Puts}
 use Rattle.guardian_run.specs.Ending.{EndsWith, EndsWithLine, EndsRefused}
 use Rattle.guardian_run.specs.Storing.{Keeps}
-use Rattle.guardian_run.specs.Running.{RunSays, StartSays, ReadSays, IsStart, IsRun, CanRun, RunsFrom, RunEnds}
+use Rattle.guardian_run.specs.Running.{RunSays, StartSays, ReadSays, IsStart, HasUploaded, CanRun, RunsFrom, RunEnds}
 use Rattle.guardian_run.specs.Telling.{status_told, text_told, EndsTold, HasRun}
 use Rattle.guardian_run.proofs.EndLemmas.{said_by, said_is}
 use Rattle.guardian_run.proofs.OneOutcome.{no_fault}
@@ -165,7 +165,7 @@ module _ {D : Type 0} (honest : D → Type 0) (seen : D → List ℕ) (images : 
       (stands : honest start → StandsFor w.shape (records j0.entries) (seen start))
       (leaves : honest start → OpenLeaves honest seen images moment since w.shape start j0.disk) (was : honest j0.disk → honest start)
       (calm : faults_of start ≤ faults_of j0.disk)
-      (begun : honest j0.disk → IsJournalRun honest seen images moment since (start_of seen moment j0) j0)
+      (begun : honest j0.disk → IsRun honest seen images moment since (start_of seen moment j0) j0)
       (keeps : Keeps honest seen images moment since faults_of j0 j1) where
     abbrev rose : Type 0
     rose = Rose (faults_of start) (faults_of j1.disk)
@@ -173,13 +173,14 @@ module _ {D : Type 0} (honest : D → Type 0) (seen : D → List ℕ) (images : 
     abbrev rose_then : Type 0
     rose_then = Rose (faults_of j0.disk) (faults_of j1.disk)
 
-    run_is : honest start → IsJournalRun honest seen images moment since (start_of seen moment j0) j1
+    run_is : honest start → IsRun honest seen images moment since (start_of seen moment j0) j1
     run_is h = keeps.runs (start_of seen moment j0) (begun (leaves h).still)
 
     -- by what was told, at a status of it
     is_run : (s at : Status) (line : List ℕ) (ran : HasRun rose_then w j0 j1 at line) →
-        RunSays w (records j0.entries) (records j1.entries) (records (with_fault j1.entries j1.fault)) ran.acked rose_then s line → (s ≡ status.Ok → at ≡ status.Ok) →
-        IsRun honest seen images moment since rose w s line start j1.disk
+        RunSays w (records j0.entries) (records j1.entries) (records (with_fault j1.entries j1.fault)) ran.acked rose_then s line →
+        (s ≡ status.Ok → at ≡ status.Ok) →
+        HasUploaded honest seen images moment since rose w s line start j1.disk
     is_run s at line ran says ok = record {
       before = records j0.entries;
       kept = records j1.entries;
@@ -197,7 +198,7 @@ module _ {D : Type 0} (honest : D → Type 0) (seen : D → List ℕ) (images : 
       truth = true_law in_order w (records j0.entries) whole;
     }
 
-    run_end : (s : Status) (line : List ℕ) → IsRun honest seen images moment since rose w s line start j1.disk → Puts s sink line →
+    run_end : (s : Status) (line : List ℕ) → HasUploaded honest seen images moment since rose w s line start j1.disk → Puts s sink line →
         (s ≡ status.WriteFault → HasFailed sink) → RunsFrom honest seen images moment since faults_of w sink start j1.disk s
     run_end s line is puts write = record {
       text = line;
@@ -214,7 +215,8 @@ module _ {D : Type 0} (honest : D → Type 0) (seen : D → List ℕ) (images : 
         RunsFrom honest seen images moment since faults_of w sink start j1.disk s
     plain_end s at line ran far end =
         run_end s line
-        (is_run s at line ran (subst (λ x. RunSays w (records j0.entries) (records j1.entries) (records (with_fault j1.entries j1.fault)) ran.acked rose_then x line)
+        (is_run s at line ran
+        (subst (λ x. RunSays w (records j0.entries) (records j1.entries) (records (with_fault j1.entries j1.fault)) ran.acked rose_then x line)
         (sym end.0) ran.says) (λ e. sym end.0 ∙ e)) end.1 (not_write s at end.0 far sink)
 
     report_end : (s : Status) (line : List ℕ) → HasRun rose_then w j0 j1 status.Ok line → EndsWith line sink s →
@@ -223,7 +225,8 @@ module _ {D : Type 0} (honest : D → Type 0) (seen : D → List ℕ) (images : 
     report_end s line ran (inr is, puts) =
         let wrote = subst (λ x. Puts x sink line) is puts in
         run_end s line
-        (is_run s status.Ok line ran (subst (λ x. RunSays w (records j0.entries) (records j1.entries) (records (with_fault j1.entries j1.fault)) ran.acked rose_then x line)
+        (is_run s status.Ok line ran
+        (subst (λ x. RunSays w (records j0.entries) (records j1.entries) (records (with_fault j1.entries j1.fault)) ran.acked rose_then x line)
         (sym is) ran.says) (λ e. refl)) puts (λ _. wrote.written.1)
 
     told_end : (s : Status) (t : Told) → HasRun rose_then w j0 j1 (status_told t) (text_told t) → EndsTold t sink s →
@@ -255,7 +258,7 @@ module _ {D : Type 0} (honest : D → Type 0) (seen : D → List ℕ) (images : 
       begun x (inr (inl device)) = absurd (calm device.1)
       begun x (inr (inr starved)) = inr starved.0
 
-      ran : (x : IsRun honest seen images moment since (Rose (faults_of old) (faults_of new)) w s ends.text old new) → (at : Status) → s ≡ at →
+      ran : (x : HasUploaded honest seen images moment since (Rose (faults_of old) (faults_of new)) w s ends.text old new) → (at : Status) → s ≡ at →
           RunSays w x.before x.kept x.full x.acked (Rose (faults_of old) (faults_of new)) at ends.text → (s ≡ status.Ok) ⊎ (s ≡ status.NoMemory)
       ran x status.Ok is says = inl is
       ran x status.NoMemory is says = inr is
@@ -279,7 +282,7 @@ module _ {D : Type 0} (honest : D → Type 0) (seen : D → List ℕ) (images : 
       ran x status.Missing is says = absurd says
 
       by : IsStart honest seen images moment since (Rose (faults_of old) (faults_of new)) w s ends.text old new
-          ⊎ IsRun honest seen images moment since (Rose (faults_of old) (faults_of new)) w s ends.text old new → (s ≡ status.Ok) ⊎ (s ≡ status.NoMemory)
+          ⊎ HasUploaded honest seen images moment since (Rose (faults_of old) (faults_of new)) w s ends.text old new → (s ≡ status.Ok) ⊎ (s ≡ status.NoMemory)
       by (inl x) = begun x x.says
       by (inr x) = ran x s refl x.says
 
@@ -324,8 +327,10 @@ module _ {D : Type 0} (honest : D → Type 0) (seen : D → List ℕ) (images : 
       still_counts : faults_of old ≤ faults_of new
       still_counts = let same = ap faults_of left in omega (arith, same)
 
-      ended : (said : Result Scenario Fault) (line : List ℕ) → IfSome source.old (λ input. reading input ≡ said) → ReadSays said source s line → Puts s sink line →
-          (s ≡ status.WriteFault → HasFailed sink) → (((s ≡ status.ReadFault) ⊎ (s ≡ status.NoMemory)) ⊎ IfSome source.old (λ input. IsTaken input source.new)) →
+      ended : (said : Result Scenario Fault) (line : List ℕ) → IfSome source.old (λ input. reading input ≡ said) → ReadSays said source s line →
+          Puts s sink line →
+          (s ≡ status.WriteFault → HasFailed sink) →
+          (((s ≡ status.ReadFault) ⊎ (s ≡ status.NoMemory)) ⊎ IfSome source.old (λ input. IsTaken input source.new)) →
           ((w : Scenario) → said ≡ Ok w → (HasFailed source → ⊥) → (s ≡ status.Ok) ⊎ (s ≡ status.NoMemory)) →
           RunEnds honest seen images moment since faults_of source sink old new s
       ended said line input is puts write draws complete = record {
@@ -343,7 +348,8 @@ module _ {D : Type 0} (honest : D → Type 0) (seen : D → List ℕ) (images : 
       }
 
       starved : s ≡ status.NoMemory → Puts s sink no_memory_line → RunEnds honest seen images moment since faults_of source sink old new s
-      starved at puts = ended (said_by source.old) no_memory_line (said_is source.old) (inr (inr (at, refl))) puts (not_write s status.NoMemory at (λ e. cc) sink)
+      starved at puts = ended (said_by source.old) no_memory_line (said_is source.old) (inr (inr (at, refl))) puts
+          (not_write s status.NoMemory at (λ e. cc) sink)
           (inl (inr at)) (λ w same fine. inr at)
 
       by : (f : ScenarioFault) → IfSome source.old (λ input. Answers (Err f) (reading input)) → IfSome source.old (λ input. Took (Err f) input source.new) →

@@ -154,7 +154,8 @@ module _ {D : Type 0} (pass : ℕ) (u : UploadData) (old new : JournalState D) (
       subst (λ (j : JournalState D). HasTaken ((pass, u) ∷ []) old j) (sym new_is) (record {
         shape = refl;
         room = refl;
-        entries = turned cs is.0.comes.decides ∙ ap (λ (es : List Entry). Ok es) (stored_is old.entries pass u (new_columns (content old.entries) u.columns) is.0.some);
+        entries = turned cs is.0.comes.decides
+            ∙ ap (λ (es : List Entry). Ok es) (stored_is old.entries pass u (new_columns (content old.entries) u.columns) is.0.some);
       })
   one_taken Known is =
       subst (λ (j : JournalState D). HasTaken ((pass, u) ∷ []) old j) (sym is.1)

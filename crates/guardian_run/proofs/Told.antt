@@ -40,7 +40,8 @@ never_ok s at far is ok = absurd (far (sym is ∙ ok))
 module _ {D : Type 0} (w : Scenario) (old new : JournalState D) (shape : old.shape ≡ w.shape) (turns : LawOfTurns) (rose : Type 0) where
   -- ---- all uploads were taken
 
-  pub run_done : (text : List ℕ) → HasTaken (turns_of w) old new → new.fault ≡ None → text ≡ report (content new.entries) w → HasRun rose w old new status.Ok text
+  pub run_done : (text : List ℕ) → HasTaken (turns_of w) old new → new.fault ≡ None → text ≡ report (content new.entries) w →
+      HasRun rose w old new status.Ok text
   run_done text taken whole is =
       let ts = turns_of w in
       let t = turns.holds w old.entries ts new.entries [] (applied_front w ts [] old new shape (sym (append-nil ts)) taken) in

@@ -45,7 +45,8 @@ pub record DiskChange : Type 1 where
   pub faults_old : ℕ
   pub faults_new : ℕ
 
-abbrev pub disk_change : {D : Type 0} → (honest : D → Type 0) → (seen : D → List ℕ) → (faults : D → ℕ) → (old new : D) → DiskChange
+abbrev pub disk_change : {D : Type 0} → (honest : D → Type 0) → (seen : D → List ℕ) → (faults : D → ℕ) →
+    (old new : D) → DiskChange
 disk_change honest seen faults old new = record { honest = honest old; seen = seen old; faults_old = faults old; faults_new = faults new }
 
 abbrev pub DiskHasFailed : DiskChange → Type 0

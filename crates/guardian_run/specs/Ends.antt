@@ -1,5 +1,5 @@
--- How a command ends that never writes to the disk: what it answers and why, what it writes, and what it does to its source
--- and its sink.
+-- How a command ends that never writes to the disk: what it answers and why, what it writes, and what it does to its
+-- source and its sink.
 use Rattle.std.specs.Prelude.{◌≡◌, ◌⊎◌, ◌↔◌, ℕ, ◌≤◌, true, List, Option, None, IfSome, Result, Ok, Err}
 use Rattle.lg_model.specs.Scenario.{Scenario}
 use Rattle.scenario_text.specs.Text.{Fault, reading}
@@ -41,7 +41,8 @@ IsCutShortBy s text =
 -- ---- what is answered, and why
 
 -- A status and a text are those of what the call comes to.
-pub record IsEndOf (asked : Option Command) (said : Result Scenario Fault) (file : List ℕ) (s : Status) (text : List ℕ) : Type 0 where
+pub record IsEndOf (asked : Option Command) (said : Result Scenario Fault) (file : List ℕ) (s : Status)
+    (text : List ℕ) : Type 0 where
   pub outcome : Outcome
   pub comes : Comes asked said file outcome
   pub status : IsStatusOf outcome s
@@ -49,7 +50,8 @@ pub record IsEndOf (asked : Option Command) (said : Result Scenario Fault) (file
 
 -- Why a status is answered and a text is written, where `asked` is the command that the words ask for, if they are one,
 -- `said` is what the input says, and `file` what the book's file holds.
-pub record IsAnswered (asked : Option Command) (said : Result Scenario Fault) (file : List ℕ) (source sink : Change) (disk : DiskChange)
+pub record IsAnswered (asked : Option Command) (said : Result Scenario Fault) (file : List ℕ) (source sink : Change)
+    (disk : DiskChange)
     (s : Status) (text : List ℕ) : Type 0 where
   -- Not a command: exactly at `BadWords`.
   pub words : s ≡ status.BadWords ↔ asked ≡ None
@@ -62,7 +64,8 @@ pub record IsAnswered (asked : Option Command) (said : Result Scenario Fault) (f
   pub device : s ≡ status.DiskFault → (looks_at_file asked ≡ true) × DiskHasFailed disk
   pub write : s ≡ status.WriteFault → HasFailed sink
   -- Where neither source nor disk nor sink fails, and the call comes to an output, the status is `Ok` or `NoMemory`.
-  pub complete : (output : List ℕ) → Comes asked said file (Ok output) → (HasFailed source → ⊥) → (DiskHasFailed disk → ⊥) → (HasFailed sink → ⊥)
+  pub complete : (output : List ℕ) → Comes asked said file (Ok output) → (HasFailed source → ⊥) →
+      (DiskHasFailed disk → ⊥) → (HasFailed sink → ⊥)
       → (s ≡ status.Ok) ⊎ (s ≡ status.NoMemory)
 
 -- ---- what is written

@@ -20,8 +20,9 @@ use Rattle.guardian_run.specs.Outcomes.{Outcome, Comes, WithScenario, reads_text
 abbrev pub IsUnread : (source : Change) → Outcome → Type 0
 IsUnread source outcome = ((outcome ≡ Err refusals.ReadFault) × HasFailed source) ⊎ (outcome ≡ Err refusals.Memory)
 
--- What a command gives that reads a scenario and runs its network: what it comes to with the scenario, unless the source
--- failed or memory ran out. `said` is what the input says, which a source that does not tell its bytes keeps to itself.
+-- What a command gives that reads a scenario and runs its network: what it comes to with the scenario, unless the
+-- source failed or memory ran out. `said` is what the input says, which a source that does not tell its bytes keeps
+-- to itself.
 pub record GivesOfText (next : Scenario → Outcome → Type 0) (source : Change) (outcome : Outcome) : Type 0 where
   pub said : Result Scenario Fault
   pub input : IfSome source.old (λ input. reading input ≡ said)
@@ -34,8 +35,8 @@ pub record GivesOfText (next : Scenario → Outcome → Type 0) (source : Change
 abbrev pub IsUnlooked : (disk : DiskChange) → Outcome → Type 0
 IsUnlooked disk outcome = ((outcome ≡ Err refusals.DiskFault) × DiskHasFailed disk) ⊎ (outcome ≡ Err refusals.Memory)
 
--- What a command gives that looks at the book's file: what it comes to with the file, unless the disk failed or memory ran
--- out. `file` is what the file holds, which a disk that is not honest keeps to itself.
+-- What a command gives that looks at the book's file: what it comes to with the file, unless the disk failed or
+-- memory ran out. `file` is what the file holds, which a disk that is not honest keeps to itself.
 pub record GivesOfFile (next : List ℕ → Outcome → Type 0) (disk : DiskChange) (outcome : Outcome) : Type 0 where
   pub file : List ℕ
   pub held : disk.honest → file ≡ disk.seen
@@ -53,7 +54,8 @@ IsFree asked source disk outcome =
 
 -- Of each scenario of the file's shape with which the file's records agree, they tell the truth.
 abbrev pub IsTrueFile : List ℕ → Type 0
-IsTrueFile file = (w : Scenario) (rs : List UploadData) → IsWhole w → StandsFor w.shape rs file → AgreesWith w (content_in rs) → IsTrueBook w (content_in rs)
+IsTrueFile file = (w : Scenario) (rs : List UploadData) → IsWhole w → StandsFor w.shape rs file →
+    AgreesWith w (content_in rs) → IsTrueBook w (content_in rs)
 
 -- What a command writes of the network is true: of the scenario's own run, or of the book.
 abbrev pub IsTrueOutput : Option Command → (said : Result Scenario Fault) → (file : List ℕ) → Type 0
@@ -71,8 +73,8 @@ pub record Draws (asked : Option Command) (short : Type 0) (source : Change) : T
   pub took : reads_text asked ≡ true → short ⊎ IfSome source.old (λ input. IsTaken input source.new)
   pub never_falls : source.faults_old ≤ source.faults_new
 
--- What a command gives. `said` is what the input says, and `file` what the book's file holds; a source that does not tell
--- its bytes, and a disk that is not honest, keep them to themselves.
+-- What a command gives. `said` is what the input says, and `file` what the book's file holds; a source that does not
+-- tell its bytes, and a disk that is not honest, keep them to themselves.
 pub record Gives (asked : Option Command) (source : Change) (disk : DiskChange) (outcome : Outcome) : Type 0 where
   pub said : Result Scenario Fault
   pub file : List ℕ

@@ -31,7 +31,8 @@ pub record IsMissingOf (s e : ℕ) (b : BookState) (known width : ℕ) : Type 0 
   pub few : known < width
 
 abbrev pub IsUnbuiltOf : (s e : ℕ) → BookState → Refusal → Type 0
-IsUnbuiltOf s e b (refusals.Missing switch epoch known width) = (switch ≡ s) × (epoch ≡ e) × IsMissingOf s e b known width
+IsUnbuiltOf s e b (refusals.Missing switch epoch known width) = (switch ≡ s) × (epoch ≡ e)
+    × IsMissingOf s e b known width
 IsUnbuiltOf s e b refusals.Memory = Unit {0}
 IsUnbuiltOf s e b refusals.BadWords = ⊥
 IsUnbuiltOf s e b (refusals.BadScenario n why) = ⊥

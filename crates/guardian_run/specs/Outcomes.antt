@@ -1,6 +1,7 @@
--- What a command that never writes to the disk comes to: its output, or why it is refused, by what the input says and what
--- the book's file holds. How `run` ends is said in Running.
-use Rattle.std.specs.Prelude.{◌≡◌, ℕ, ◌<◌, ◌≤◌, Bool, true, false, List, length, filter, Option, Some, None, Result, Ok, Err}
+-- What a command that never writes to the disk comes to: its output, or why it is refused, by what the input says and
+-- what the book's file holds. How `run` ends is said in Running.
+use Rattle.std.specs.Prelude.{◌≡◌, ℕ, ◌<◌, ◌≤◌, Bool, true, false, List, length, filter, Option, Some, None, Result}
+use Rattle.std.specs.Prelude.{Ok, Err}
 use Rattle.lg_model.specs.Placing.{Shape}
 use Rattle.lg_model.specs.Scenario.{Scenario}
 use Rattle.lg_model.specs.Columns.{dims_of}
@@ -101,7 +102,8 @@ pub record IsMissing (s e : ℕ) (file : List ℕ) (known width : ℕ) : Type 0 
 
 -- Why a sketch is not rebuilt.
 abbrev pub IsUnbuilt : (s e : ℕ) → (file : List ℕ) → Refusal → Type 0
-IsUnbuilt s e file (refusals.Missing switch epoch known width) = (switch ≡ s) × (epoch ≡ e) × IsMissing s e file known width
+IsUnbuilt s e file (refusals.Missing switch epoch known width) = (switch ≡ s) × (epoch ≡ e)
+    × IsMissing s e file known width
 IsUnbuilt s e file refusals.Blank = IsBlank file
 IsUnbuilt s e file refusals.NotAJournal = HasFault None file refusals.NotAJournal
 IsUnbuilt s e file (refusals.WrongShape kept other) = ⊥
@@ -124,8 +126,8 @@ abbrev pub WithScenario : (Scenario → Outcome → Type 0) → Result Scenario 
 WithScenario next (Err (n, why)) outcome = outcome ≡ Err (refusals.BadScenario n why)
 WithScenario next (Ok w) outcome = IsWhole w × next w outcome
 
--- What a call comes to that was asked for this command, or for none, and not for `run`, where `said` is what the input says and `file` what
--- the book's file holds.
+-- What a call comes to that was asked for this command, or for none, and not for `run`, where `said` is what the
+-- input says and `file` what the book's file holds.
 abbrev pub Comes : Option Command → (said : Result Scenario Fault) → (file : List ℕ) → Outcome → Type 0
 Comes None said file outcome = outcome ≡ Err refusals.BadWords
 Comes (Some commands.Run) said file outcome = ⊥

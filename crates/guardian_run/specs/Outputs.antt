@@ -28,7 +28,8 @@ host_lines w (h, host) = column_lines host.name (brought w (picked w) h)
 
 -- Host after host in the order of declaration, and how many there are.
 abbrev pub capture_of : Scenario → List ℕ
-capture_of w = flat_map (host_lines w) (enumerate_from 0 w.hosts) ++ sketchlets_line (length (brought_to_all w (picked w)))
+capture_of w = flat_map (host_lines w) (enumerate_from 0 w.hosts) ++ sketchlets_line
+    (length (brought_to_all w (picked w)))
 
 -- ---- `list`
 
@@ -44,4 +45,5 @@ list_of dims content = flat_map (pair_line dims) content ++ columns_line (length
 
 -- A sketch of the switch of that name and an epoch: its size, and row after row.
 abbrev pub sketch_of : (switch epoch : ℕ) → SketchState → List ℕ
-sketch_of s e sketch = rebuilt_line s e sketch.shape.rows sketch.shape.width ++ flat_map (row_line sketch) (range_with_len 0 sketch.shape.rows)
+sketch_of s e sketch = rebuilt_line s e sketch.shape.rows sketch.shape.width ++ flat_map (row_line sketch)
+    (range_with_len 0 sketch.shape.rows)

@@ -8,7 +8,8 @@ use Rattle.guardian_run.specs.declared.refusal.Refusal.{Refusal}
 use Rattle.guardian_run.specs.declared.refusal.Refusal.TheVariants as refusals
 use Rattle.guardian_run.specs.declared.status.Status.{Status}
 use Rattle.guardian_run.specs.declared.status.Status.TheVariants as status
-use Rattle.report_text.specs.Faults.{usage_line, read_fault_line, disk_fault_line, not_a_journal_line, no_memory_line, scenario_line, shape_line, damaged_line, full_line, missing_line, blank_line}
+use Rattle.report_text.specs.Faults.{usage_line, read_fault_line, disk_fault_line, not_a_journal_line, no_memory_line}
+use Rattle.report_text.specs.Faults.{scenario_line, shape_line, damaged_line, full_line, missing_line, blank_line}
 
 -- The refusal of a scenario text that cannot be had.
 abbrev pub refusal_of : ScenarioFault → Refusal

@@ -1,5 +1,6 @@
 -- How `run` ends, and what it leaves on the disk.
-use Rattle.std.specs.Prelude.{◌≡◌, ◌⊎◌, ℕ, ◌+◌, ◌<◌, ◌≤◌, List, [], ◌++◌, length, Some, IfSome, Result, Ok, Err, if◌then◌else◌}
+use Rattle.std.specs.Prelude.{◌≡◌, ◌⊎◌, ℕ, ◌+◌, ◌<◌, ◌≤◌, List, [], ◌++◌, length, Some, IfSome, Result, Ok, Err}
+use Rattle.std.specs.Prelude.{if◌then◌else◌}
 use Rattle.std.specs.List.{flat_map, enumerate_from, range_with_len}
 use Rattle.lg_base.specs.Causes.{Rose}
 use Rattle.lg_model.specs.declared.scenario.HostLine.{HostLine}
@@ -22,7 +23,8 @@ use Rattle.book_laws.specs.Leaving.{IsLeft}
 use Rattle.book_laws.specs.Keeping.{Acks, AllHeld, AreAcked, IsJoined, IsClash, IsOverfull}
 use Rattle.book_laws.specs.Truth.{IsTrueFrom}
 use Rattle.report_text.specs.Columns.{acked_line}
-use Rattle.report_text.specs.Faults.{read_fault_line, disk_fault_line, no_memory_line, scenario_line, full_line, conflict_line}
+use Rattle.report_text.specs.Faults.{read_fault_line, disk_fault_line, no_memory_line, scenario_line, full_line}
+use Rattle.report_text.specs.Faults.{conflict_line}
 use Rattle.report_text.specs.Report.{report}
 use Rattle.guardian_words.specs.declared.commands.Command.TheVariants.{Run}
 use Rattle.guardian_run.specs.declared.refusal.Refusal.{Refusal}
@@ -53,8 +55,8 @@ pub record TellsClash (w : Scenario) (before : List UploadData) (acked : Acks) (
   pub clash : IsClash w before key kept came
   pub is : text ≡ acked_lines w acked ++ conflict_line key kept came
 
--- The keys that were found and those of the brought columns are together more than a book has room for; and the lines that
--- tell it.
+-- The keys that were found and those of the brought columns are together more than a book has room for; and the lines
+-- that tell it.
 pub record TellsOverfull (w : Scenario) (before : List UploadData) (acked : Acks) (text : List ℕ) : Type 0 where
   pub held : ℕ
   pub more : ℕ
@@ -62,12 +64,15 @@ pub record TellsOverfull (w : Scenario) (before : List UploadData) (acked : Acks
   pub no_room : ROOM < held + more
   pub is : text ≡ acked_lines w acked ++ full_line held more
 
--- What a run tells that was made from the list `before`, by its status, where a crash leaves `kept` or `full`. With an
--- output all that is brought is there, and the report is on that; else what was acknowledged is told first. `rose`: the disk
--- failed.
-abbrev pub RunSays : Scenario → (before kept full : List UploadData) → Acks → (rose : Type 0) → Status → (text : List ℕ) → Type 0
-RunSays w before kept full acked rose status.Ok text = (kept ≡ full) × IsJoined w before kept × (text ≡ report (content_in kept) w)
-RunSays w before kept full acked rose status.WriteFault text = (kept ≡ full) × IsJoined w before kept × (text ≡ report (content_in kept) w)
+-- What a run tells that was made from the list `before`, by its status, where a crash leaves `kept` or `full`. With
+-- an output all that is brought is there, and the report is on that; else what was acknowledged is told first.
+-- `rose`: the disk failed.
+abbrev pub RunSays : Scenario → (before kept full : List UploadData) → Acks → (rose : Type 0) → Status →
+    (text : List ℕ) → Type 0
+RunSays w before kept full acked rose status.Ok text = (kept ≡ full) × IsJoined w before kept
+    × (text ≡ report (content_in kept) w)
+RunSays w before kept full acked rose status.WriteFault text = (kept ≡ full) × IsJoined w before kept
+    × (text ≡ report (content_in kept) w)
 RunSays w before kept full acked rose status.Conflict text = (kept ≡ full) × TellsClash w before acked text
 RunSays w before kept full acked rose status.Full text = (kept ≡ full) × TellsOverfull w before acked text
 RunSays w before kept full acked rose status.DiskFault text = rose × (text ≡ acked_lines w acked ++ disk_fault_line)
@@ -103,8 +108,8 @@ pub record IsUnread {D : Type 0} (honest : D → Type 0) (seen : D → List ℕ)
   pub says : ReadSays said source s text
   pub reads : OnlyReads honest seen images moment since old new
 
--- The book was not opened. A file that isn't blank was only read; `file` is what it holds, which a disk that is not honest
--- keeps to itself.
+-- The book was not opened. A file that isn't blank was only read; `file` is what it holds, which a disk that is not
+-- honest keeps to itself.
 pub record IsStart {D : Type 0} (honest : D → Type 0) (seen : D → List ℕ) (images : D → List ℕ → Type 0)
     (moment : D → ℕ) (since : D → ℕ → List ℕ → Type 0) (rose : Type 0) (w : Scenario) (s : Status) (text : List ℕ)
     (old new : D) : Type 0 where
@@ -114,10 +119,10 @@ pub record IsStart {D : Type 0} (honest : D → Type 0) (seen : D → List ℕ) 
   pub leaves : honest old → OpenLeaves honest seen images moment since w.shape old new
   pub reads : honest old → (IsBlank (seen old) → ⊥) → OnlyReads honest seen images moment since old new
 
--- Uploads were made, from the list `before`, for which the file of an honest disk stood. What they leave is legal at each
--- moment, and each acknowledged upload is in it; what is told of it is true; and where all that is brought was there, the
--- file is as before.
-pub record IsRun {D : Type 0} (honest : D → Type 0) (seen : D → List ℕ) (images : D → List ℕ → Type 0)
+-- Uploads were made, from the list `before`, for which the file of an honest disk stood. What they leave is legal at
+-- each moment, and each acknowledged upload is in it; what is told of it is true; and where all that is brought was
+-- there, the file is as before.
+pub record HasUploaded {D : Type 0} (honest : D → Type 0) (seen : D → List ℕ) (images : D → List ℕ → Type 0)
     (moment : D → ℕ) (since : D → ℕ → List ℕ → Type 0) (rose : Type 0) (w : Scenario) (s : Status) (text : List ℕ)
     (old new : D) : Type 0 where
   pub before : List UploadData
@@ -125,7 +130,8 @@ pub record IsRun {D : Type 0} (honest : D → Type 0) (seen : D → List ℕ) (i
   pub full : List UploadData
   pub acked : Acks
   pub stood : honest old → StandsFor w.shape before (seen old)
-  pub left : honest old → IsLeft (StandsFor w.shape) in_order w before (images old) (images new) (since new (moment old)) kept full
+  pub left : honest old →
+      IsLeft (StandsFor w.shape) in_order w before (images old) (images new) (since new (moment old)) kept full
   pub read : honest old → StandsFor w.shape kept (seen new) ⊎ StandsFor w.shape full (seen new)
   pub repeats : honest old → (IsBlank (seen old) → ⊥) → AllHeld w before → s ≡ status.Ok → seen new ≡ seen old
   pub acks : AreAcked w before kept acked
@@ -148,7 +154,7 @@ pub record RunsFrom {D : Type 0} (honest : D → Type 0) (seen : D → List ℕ)
     (s : Status) : Type 0 where
   pub text : List ℕ
   pub is : IsStart honest seen images moment since (Rose (faults_of old) (faults_of new)) w s text old new
-      ⊎ IsRun honest seen images moment since (Rose (faults_of old) (faults_of new)) w s text old new
+      ⊎ HasUploaded honest seen images moment since (Rose (faults_of old) (faults_of new)) w s text old new
   pub puts : Puts s sink text
   pub write : s ≡ status.WriteFault → HasFailed sink
   pub still : honest old → honest new
@@ -166,7 +172,7 @@ pub record RunEnds {D : Type 0} (honest : D → Type 0) (seen : D → List ℕ) 
   pub is : IsUnread honest seen images moment since said source s text old new
       ⊎ ((w : Scenario) × (said ≡ Ok w) × IsWhole w
       × (IsStart honest seen images moment since (Rose (faults_of old) (faults_of new)) w s text old new
-      ⊎ IsRun honest seen images moment since (Rose (faults_of old) (faults_of new)) w s text old new))
+      ⊎ HasUploaded honest seen images moment since (Rose (faults_of old) (faults_of new)) w s text old new))
   pub draws : Draws (Some Run) ((s ≡ status.ReadFault) ⊎ (s ≡ status.NoMemory)) source
   pub puts : Puts s sink text
   pub write : s ≡ status.WriteFault → HasFailed sink

@@ -1,7 +1,9 @@
 -- The exit status of each end.
 use Rattle.std.specs.Prelude.{ℕ}
 use Rattle.guardian_run.specs.declared.status.Status.{Status}
-use Rattle.guardian_run.specs.declared.status.Status.TheVariants.{Ok, BadWords, BadScenario, ReadFault, WriteFault, DiskFault, NotAJournal, WrongShape, Damaged, Conflict, Full, NoMemory, Missing}
+use Rattle.guardian_run.specs.declared.status.Status.TheVariants.{Ok, BadWords, BadScenario, ReadFault, WriteFault}
+use Rattle.guardian_run.specs.declared.status.Status.TheVariants.{DiskFault, NotAJournal, WrongShape, Damaged}
+use Rattle.guardian_run.specs.declared.status.Status.TheVariants.{Conflict, Full, NoMemory, Missing}
 
 abbrev pub code_of : Status → ℕ
 code_of Ok = 0

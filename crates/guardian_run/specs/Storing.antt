@@ -1,5 +1,6 @@
 -- What applying the uploads of a run does to a journal.
-use Rattle.std.specs.Prelude.{◌≡◌, ℕ, ◌+◌, ◌<◌, ◌≤◌, nat_lt, List, [], ◌∷◌, ◌++◌, map, length, slice_index_or, None, Some, Ok, Err}
+use Rattle.std.specs.Prelude.{◌≡◌, ℕ, ◌+◌, ◌<◌, ◌≤◌, nat_lt, List, [], ◌∷◌, ◌++◌, map, length, slice_index_or, None}
+use Rattle.std.specs.Prelude.{Some, Ok, Err}
 use Rattle.std.specs.List.{flat_map, enumerate_from}
 use Rattle.lg_model.specs.declared.scenario.HostLine.{HostLine}
 use Rattle.lg_model.specs.Scenario.{Scenario}
@@ -56,7 +57,8 @@ pub record IsBrokenNext {D : Type 0} (rest : List Turn) (j : JournalState D) : T
   pub next : Turn
   pub more : List Turn
   pub split : rest ≡ next ∷ more
-  pub decides : decide j.shape ROOM (records j.entries) next.1 ≡ Ok (stored_entry next.0 j.entries next.1).stored.columns
+  pub decides : decide j.shape ROOM (records j.entries) next.1 ≡ Ok
+      (stored_entry next.0 j.entries next.1).stored.columns
   pub some : 1 ≤ length (stored_entry next.0 j.entries next.1).stored.columns
   pub broken : j.fault ≡ Some (stored_entry next.0 j.entries next.1)
 
@@ -70,7 +72,8 @@ IsStop faults.Memory rest j = j.fault ≡ None
 IsStop (faults.Broken n) rest j = ⊥
 
 -- A journal took the first n of these turns, and stopped.
-pub record HasStopped {D : Type 0} (turns : List Turn) (n : ℕ) (old new : JournalState D) (fault : ApplyFault) : Type 0 where
+pub record HasStopped {D : Type 0} (turns : List Turn) (n : ℕ) (old new : JournalState D)
+    (fault : ApplyFault) : Type 0 where
   pub front : List Turn
   pub rest : List Turn
   pub split : turns ≡ front ++ rest

@@ -54,8 +54,10 @@ CanBeTold (faults.Broken n) = ⊥
 abbrev pub TellsStop : Scenario → Acks → ApplyFault → Told → Type 0
 TellsStop w acked (faults.Conflict key kept came) t =
     (status_told t ≡ status.Conflict) × (text_told t ≡ acked_lines w acked ++ conflict_line key kept came)
-TellsStop w acked (faults.Full held more) t = (status_told t ≡ status.Full) × (text_told t ≡ acked_lines w acked ++ full_line held more)
-TellsStop w acked faults.DiskFault t = (status_told t ≡ status.DiskFault) × (text_told t ≡ acked_lines w acked ++ disk_fault_line)
+TellsStop w acked (faults.Full held more) t = (status_told t ≡ status.Full)
+    × (text_told t ≡ acked_lines w acked ++ full_line held more)
+TellsStop w acked faults.DiskFault t = (status_told t ≡ status.DiskFault)
+    × (text_told t ≡ acked_lines w acked ++ disk_fault_line)
 TellsStop w acked faults.Memory t = ⊥
 TellsStop w acked (faults.WrongShape kept came) t = ⊥
 TellsStop w acked (faults.Broken n) t = ⊥
@@ -63,11 +65,13 @@ TellsStop w acked (faults.Broken n) t = ⊥
 -- ---- all uploads
 
 -- What the uploads of a run made of the journal that was opened, and what is told of it, at that status.
-pub record HasRun {D : Type 0} (rose : Type 0) (w : Scenario) (old new : JournalState D) (s : Status) (text : List ℕ) : Type 0 where
+pub record HasRun {D : Type 0} (rose : Type 0) (w : Scenario) (old new : JournalState D) (s : Status)
+    (text : List ℕ) : Type 0 where
   pub acked : Acks
   pub shape : new.shape ≡ old.shape
   pub legal : IsLegal in_order w (records old.entries) (records (with_fault new.entries new.fault))
   pub begins : IsPrefix (records old.entries) (records new.entries)
   pub acks : AreAcked w (records old.entries) (records new.entries) acked
-  pub says : RunSays w (records old.entries) (records new.entries) (records (with_fault new.entries new.fault)) acked rose s text
+  pub says : RunSays w (records old.entries) (records new.entries)
+      (records (with_fault new.entries new.fault)) acked rose s text
   pub repeats : AllHeld w (records old.entries) → s ≡ status.Ok → (new.fault ≡ None) × (new.entries ≡ old.entries)

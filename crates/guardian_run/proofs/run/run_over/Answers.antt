@@ -22,7 +22,8 @@ returns-in-Err-clause-ends g c =
     (subst (λ (s : Shape). Reads (g.D.Disk.honest start) (g.D.Disk.seen start) (λ file. IsRefused s ROOM file c.in-Err.fault)) asked e.refused)
     (subst (λ r. EndsRefused r sink c.end.result) c.from.ensures c.end.ensures.refused)
     e.cause
-    (λ h. subst (λ (s : Shape). OpenLeaves g.D.Disk.honest g.D.Disk.seen g.D.Disk.images g.D.Disk.moment g.D.Disk.since s start c.in-Err.disk) asked (e.leaves h))
+    (λ h. subst (λ (s : Shape). OpenLeaves g.D.Disk.honest g.D.Disk.seen g.D.Disk.images g.D.Disk.moment g.D.Disk.since s start c.in-Err.disk) asked
+    (e.leaves h))
     e.untouched e.was e.never_falls
 
 pub returns-clause-ends : goal.returns-clause-ends

@@ -8,7 +8,8 @@ use Rattle.host_collect.specs.Collecting.{IsCutter, no_item}
 use Rattle.book_journal.specs.declared.applied.ApplyFault.TheVariants as faults
 use Rattle.guardian_run.specs.Storing.{turns_with, HasTaken, Keeps}
 use Rattle.guardian_run.proofs.Taking.{err_so, keeps_more}
-use Rattle.guardian_run.proofs.HostTurns.{HasCome, held_some, cut_next, come_some, come_none, host_starved, host_stopped, host_last, host_last_stopped, host_done}
+use Rattle.guardian_run.proofs.HostTurns.{HasCome, held_some, cut_next, come_some, come_none, host_starved, host_stopped, host_last}
+use Rattle.guardian_run.proofs.HostTurns.{host_last_stopped, host_done}
 use Rattle.guardian_run.proofs.storing.store_host.Goals.{in-Some+in_ok-take, in_default, in-Some-finish+in_ok-take-2, in_default-finish}
 use Rattle.guardian_run.proofs.storing.store_host.Goals as goal
 
@@ -105,7 +106,8 @@ returns-in_err-take-2-clause-stopped g c = λ cs all.
     let p = err_from_is_err_and r.result r.ensures.1 in
     err_so r.result p.0 fault _ p.1 p.2
     (host_last_stopped c.args.pass c.args.host c.args.arrived.now cs all i inv.given c.loop-item.cutter c.args.journal.now c.loop-item.journal
-    c.take-in-Some-finish.new.taken inv.taken (c.in_err-take-2.ensures.same ∙ inv.count) c.in-Some-finish.upload fault c.take-in-Some-finish.new.journal end inv.cut
+    c.take-in-Some-finish.new.taken inv.taken (c.in_err-take-2.ensures.same
+    ∙ inv.count) c.in-Some-finish.upload fault c.take-in-Some-finish.new.journal end inv.cut
     (sym c.finish.ensures ∙ c.in-Some-finish.is) c.in_err-take-2.ensures.stopped)
 
 pub returns-in_err-take-2-clause-keeps : goal.returns-in_err-take-2-clause-keeps

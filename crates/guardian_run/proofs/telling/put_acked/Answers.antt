@@ -11,6 +11,7 @@ loop-seq-preserved c =
     let n = c.loop-seq.seq in
     let old = c.args.text.now.items in
     let more : flat_map f (range_with_len 0 (n + 1)) ≡ flat_map f (range_with_len 0 n) ++ f n =
-    ap (flat_map f) (range_more n) ∙ flat_map-append f (range_with_len 0 n) (n ∷ []) ∙ ap (λ (xs : List ℕ). flat_map f (range_with_len 0 n) ++ xs) (append-nil (f n)) in
+    ap (flat_map f) (range_more n) ∙ flat_map-append f (range_with_len 0 n) (n ∷ [])
+    ∙ ap (λ (xs : List ℕ). flat_map f (range_with_len 0 n) ++ xs) (append-nil (f n)) in
     c.in_ok-put_acked_line.ensures ∙ ap (λ (xs : List ℕ). xs ++ f n) c.loop-seq.invariant
     ∙ append_assoc old (flat_map f (range_with_len 0 n)) (f n) ∙ ap (λ (xs : List ℕ). old ++ xs) (sym more)

@@ -15,7 +15,8 @@ returns-in_err-arrivals-clause-starved g c =
     let p = err_from_is_err_and c.from_residual.result c.from_residual.ensures.1 in
     let j = c.args.journal.now in
     err_so c.from_residual.result p.0 p.0 _ p.1 refl
-    (run_unbegun c.args.scenario.now j c.requires.shape c.turns_are_legal.ensures.turns (Rose (g.D.Disk.faults j.disk) (g.D.Disk.faults j.disk)) c.requires.whole)
+    (run_unbegun c.args.scenario.now j c.requires.shape c.turns_are_legal.ensures.turns
+    (Rose (g.D.Disk.faults j.disk) (g.D.Disk.faults j.disk)) c.requires.whole)
 
 pub returns-in_err-text-in-Ok-clause-starved : goal.returns-in_err-text-in-Ok-clause-starved
 returns-in_err-text-in-Ok-clause-starved g c =
@@ -49,7 +50,8 @@ returns-clause-told g c =
     let new = c.store_all.new.journal in
     let s = c.in-Err.ensures.stopped in
     ok_so c.stopped.result _ _
-    (λ t tells. run_stopped c.args.scenario.now old new c.requires.shape c.turns_are_legal.ensures.turns (Rose (g.D.Disk.faults old.disk) (g.D.Disk.faults new.disk))
+    (λ t tells. run_stopped c.args.scenario.now old new c.requires.shape c.turns_are_legal.ensures.turns
+    (Rose (g.D.Disk.faults old.disk) (g.D.Disk.faults new.disk))
     s.0 c.in-Err.fault s.1 (λ e. c.store_all.ensures.cause (c.in-Err.is ∙ ap (λ (f : ApplyFault). Err f) e)) c.requires.fits c.requires.once
     c.turns_are_legal.ensures.counts (counts_of c.store_all.new.progress) s.2 t tells)
     c.stopped.ensures
