@@ -13,6 +13,8 @@
 //! | `lines FILE TIMES` | the lines of all columns of a book file are made, so many times |
 //! | `list FILE TIMES` | a book file is opened as a journal and listed, so many times |
 //! | `journal FILE N` | a journal takes N uploads of 16 new columns |
+//! | `alone N` | a journal over a disk in memory takes N uploads of 16 new columns |
+//! | `shared N PASSES` | the same through a shared book, N / PASSES uploads in each of 1 to 64 threads |
 //!
 //! The order is `near`, uploads of neighbouring columns, or `scattered`. A book file is of sketches of eight rows of 4,096
 //! buckets, with places by the ports. It writes one number, which tells that the work was done, and ends with 1 where it
@@ -24,16 +26,20 @@ mod columns;
 mod disks;
 mod files;
 mod frames;
+mod locks;
 
 use crate::books::{asked, taken, walked};
 use crate::columns::Order;
 use crate::disks::{appended, scanned};
 use crate::files::{journaled, lined, listed, looked, opened};
 use crate::frames::sent;
+use crate::locks::{applied, shared};
 use lg_disk::FileDisk;
 use std::alloc::Global;
 use std::process::ExitCode;
 use std::rt::{Env, Files};
+use std::sync::Wait;
+use std::thread::Threads;
 use std::{env, io};
 
 // The words after the program's name.
@@ -96,21 +102,29 @@ fn of_file<F: Files>(files: &F, alloc: Global, part: &str, name: &str, count: &s
     }
 }
 
+// What a part that needs no more than a count comes to.
+fn of_count(alloc: Global, part: &str, count: &str) -> Option<u64> {
+    let count = number(count)?;
+    if part == "frames" {
+        sent(alloc, count)
+    } else if part == "alone" {
+        applied(alloc, count)
+    } else {
+        None
+    }
+}
+
 // What the part of these words comes to.
-fn done<F: Files>(files: &F, alloc: Global, words: &[String]) -> Option<u64> {
+fn done<R: Files + Threads + Wait + Sync>(rt: &R, alloc: Global, words: &[String]) -> Option<u64> {
     match words {
-        [part, count] => {
-            if part.as_str() == "frames" {
-                sent(alloc, number(count)?)
-            } else {
-                None
-            }
-        }
+        [part, count] => of_count(alloc, part, count),
         [part, name, count] => {
             if part.as_str() == "read" || part.as_str() == "append" {
-                of_disk(files, part, name, count)
+                of_disk(rt, part, name, count)
+            } else if part.as_str() == "shared" {
+                shared(rt, alloc, number(name)?, number(count)?)
             } else {
-                of_file(files, alloc, part, name, count)
+                of_file(rt, alloc, part, name, count)
             }
         }
         [part, order, count, times] => of_book(alloc, part, order, count, times),
