@@ -1,4 +1,4 @@
-//! Where bytes come from and go to, and the faults of the outside, which are counted.
+//! Where bytes come from and go to, the faults of the outside, which are counted, and the gate of a worker's frames.
 //!
 //! | Item | What it is |
 //! |---|---|
@@ -7,6 +7,7 @@
 //! | [`MemorySource`], [`MemorySink`] | both in memory, failing where they are told to |
 //! | [`StdSource`], [`StdSink`] | both over std's streams |
 //! | [`Faults`], [`Failing`] | a count of faults, and the calls of an object in memory that are to fail |
+//! | [`Gate`], [`OpenGate`] | what sees each frame that a worker sends, and one that does nothing |
 //! | [`Memory`], [`Failed`], [`WriteFault`] | want of memory, a failed call of the outside, bytes not put |
 //!
 //! A source or a sink has a written meaning: the bytes that are left or written, where the implementation
@@ -18,6 +19,7 @@
 mod failing;
 mod fault_count;
 mod faults;
+mod gate;
 mod memory_sink;
 mod memory_source;
 mod put;
@@ -29,6 +31,7 @@ mod std_source;
 pub use failing::Failing;
 pub use fault_count::Faults;
 pub use faults::{Failed, Memory, WriteFault};
+pub use gate::{Gate, OpenGate};
 pub use memory_sink::MemorySink;
 pub use memory_source::MemorySource;
 pub use put::put_all;
