@@ -1,0 +1,4 @@
+pub mod Waiting
+pub mod Deliveries
+pub mod Laws
+pub mod Worked
