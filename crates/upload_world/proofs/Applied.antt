@@ -31,7 +31,7 @@ abbrev has : List Column → Key → Bool
 has cs q = list_any (same_column_key q) (keys cs)
 
 -- a column more
-found_more : (m : Content) (c : Column) (q : Key) → found (with_column m c) q ≡ cond (same_column_key q c.key) (Some c.cells) (found m q)
+pub found_more : (m : Content) (c : Column) (q : Key) → found (with_column m c) q ≡ cond (same_column_key q c.key) (Some c.cells) (found m q)
 found_more m c q = found-insert m c.key q c.cells ∙ ap (λ b. cond b (Some c.cells) (found m q)) (is_at_key q c.key)
 
 parts : (a b : Bool) → (a || b) ≡ false → (a ≡ false) × (b ≡ false)

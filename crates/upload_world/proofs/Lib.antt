@@ -3,3 +3,12 @@ pub mod Applied
 pub mod Keeping
 pub mod Running
 pub mod Parts
+pub mod Contents
+pub mod Chains
+pub mod Delivered
+pub mod Chained
+pub mod Steady
+pub mod Sending
+pub mod Rounding
+pub mod Whole
+pub mod Promised

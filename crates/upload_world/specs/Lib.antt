@@ -1,3 +1,5 @@
 pub mod World
 pub mod Law
 pub mod Kept
+pub mod Pumps
+pub mod Pumping

@@ -66,10 +66,11 @@ impl Uploader {
         self.host
     }
 
-    /// The upload of a number, which is below the number of uploads.
+    /// The upload of a number, which is below the number of uploads: it is of this host, and has that number.
     pub fn upload(&self, seq: u32) -> &Upload
         requires { seq < length self.now.uploads }
-        ensures { slice_get self.now.uploads seq ≡ Some result.now }
+        ensures value { slice_get self.now.uploads seq ≡ Some result.now }
+        ensures own { (result.now.host ≡ self.now.host) × (result.now.seq ≡ seq) }
     {
         &self.uploads[seq as usize]
     }

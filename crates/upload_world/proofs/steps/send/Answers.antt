@@ -31,7 +31,7 @@ returns-in-Some c rs book =
     let is = c.index_mut.ensures.value in
     let found : c.index.result.now ≡ v = c.index.ensures ∙ get_or-set_same us at v c.index.result.now lt in
     let there : slice_get u.uploads seq ≡ Some f = sym (ap (λ (x : UploaderState). slice_get x.uploads seq) (found ∙ c.in-Some.ensures.states))
-    ∙ c.upload.ensures in
+    ∙ c.upload.ensures.value in
     let frames = c.push_reserved.ensures.items ∙ (λ i. c.reserve.ensures.items i ++ c.copy_into-frame.ensures i ∷ []) in
     did w _ _ (Send at) (send_some w at u seq f lt is (sym c.in-Some.ensures.which) there)
     (λ i. world_of (set us at (c.in-Some.ensures.states i)) (frames i) rs book)
