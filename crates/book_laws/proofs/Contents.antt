@@ -26,6 +26,7 @@ use Rattle.column_book.proofs.Contents.{found-insert}
 use Rattle.column_book.proofs.Stored.{distinct_new}
 use Rattle.column_book.proofs.Joins.{keys_total, in_order, found-join}
 use Rattle.column_book.proofs.Joins as joins
+use Rattle.upload_world.specs.Pumps.{Has}
 use Rattle.run_laws.proofs.Found.{agrees_all, none_has}
 use Rattle.book_laws.specs.Keeping.{IsHeld, HasKeysOnce}
 use Rattle.book_laws.proofs.Lists.{contains_map}
@@ -51,13 +52,6 @@ absent None h = refl
 absent (Some v) h = absurd (true≢false (sym h))
 
 -- ---- columns
-
--- one of them has that key and these counters
-pub record Has (cs : List Column) (k : Key) (v : Cells) : Type 0 where
-  pub column : Column
-  pub inside : Contains cs column
-  pub key : column.key ≡ k
-  pub cells : column.cells ≡ v
 
 -- all that have that key have these counters
 abbrev pub Says : Key → Cells → List Column → Type 0
@@ -136,11 +130,15 @@ says_itself (d ∷ cs) apart c has = by has.0 has.1 has.2 (λ h. says_itself cs 
         let inside : Contains cs c = (i, omega (arith, low), is) in
         All-cons Same d cs (λ same. absurd (other d.key cs c apart.0 inside same)) (rest inside)
 
+-- where no key stands twice, each column is found
+pub once_found : (cs : List Column) → IsDistinct same_column_key (keys_of cs) → (c : Column) → Contains cs c → found (content_of cs) c.key ≡ Some c.cells
+once_found cs apart c has = is_found [] cs c (says_itself cs apart c has) has
+
 -- each column of an upload is found in its content
 pub own_found : (cs : List Column) → IsUpload cs → (c : Column) → Contains cs c → found (content_of cs) c.key ≡ Some c.cells
 own_found cs is c has =
-    is_found [] cs c (says_itself cs (subst (λ (xs : List Column). IsDistinct same_column_key (keys_of xs)) (all_pass cs)
-    (distinct_new (λ (x : Column). true) cs is.apart)) c has) has
+    once_found cs (subst (λ (xs : List Column). IsDistinct same_column_key (keys_of xs)) (all_pass cs)
+    (distinct_new (λ (x : Column). true) cs is.apart)) c has
   where
     all_pass : (xs : List Column) → filter (λ (x : Column). true) xs ≡ xs
     all_pass [] = refl

@@ -20,12 +20,13 @@ use Rattle.column_book.specs.Entries.{columns_in, content_in}
 use Rattle.column_book.specs.Applying.{new_columns}
 use Rattle.column_book.proofs.Keys.{one_key, is_at_key}
 use Rattle.column_book.proofs.Joins.{keys_total, in_order, join_in_order, found-join}
+use Rattle.upload_world.specs.Pumps.{Has}
 use Rattle.run_laws.specs.Truth.{book_of}
 use Rattle.book_laws.specs.Legal.{Order, AreLegalNext, IsLegal, upload_at}
 use Rattle.book_laws.specs.Keeping.{IsHeld, AllHeld, HasKeysOnce, IsJoined}
 use Rattle.book_laws.specs.Laws.{LawOfLegalLists}
 use Rattle.book_laws.proofs.Lists.{same_rest}
-use Rattle.book_laws.proofs.Contents.{Has, none_some, some_same, if_some, came_from, some_found, new_absent, content_in_order}
+use Rattle.book_laws.proofs.Contents.{none_some, some_same, if_some, came_from, some_found, new_absent, content_in_order}
 use Rattle.book_laws.proofs.Legal.{are_new, legal_keeps, next_brought, legal_brought, legal_once, found_from, legal_front}
 
 tied : (a b : Key) → key_cmp a b ≡ Equal → a ≡ b

@@ -1,6 +1,7 @@
 -- What a legal list has.
-use Rattle.std.specs.Prelude.{◌≡◌, ◌⊎◌, List, [], ◌∷◌, ◌++◌, All, Contains, Some}
-use Rattle.std.proofs.Common.{sym, ap, ◌∙◌, subst, inl, inr, append_assoc}
+use Rattle.std.specs.Prelude.{◌≡◌, ◌⊎◌, ℕ, suc, List, [], ◌∷◌, ◌++◌, take, All, Contains, Some}
+use Rattle.std.specs.List.{slice_get}
+use Rattle.std.proofs.Common.{refl, sym, ap, ◌∙◌, subst, inl, inr, append_assoc}
 use Rattle.std.proofs.lemmas.List.{append-nil}
 use Rattle.std.proofs.lemmas.List.Elements.{All-nil, All-append, All-contains, All-filter, All-same}
 use Rattle.lg_model.specs.declared.column.Key.{Key}
@@ -14,9 +15,10 @@ use Rattle.column_book.specs.declared.book.TheConstants.{ROOM}
 use Rattle.column_book.specs.Entries.{columns_in, content_in}
 use Rattle.column_book.specs.Applying.{is_new, new_columns}
 use Rattle.column_book.proofs.Applying.{taken}
+use Rattle.upload_world.specs.Pumps.{Has}
 use Rattle.book_laws.specs.Legal.{Order, IsLegalNext, AreLegalNext, upload_at}
 use Rattle.book_laws.specs.Keeping.{HasKeysOnce}
-use Rattle.book_laws.proofs.Contents.{Has, came_from, content-append, content_more, taken_in, taken_keeps, once_more}
+use Rattle.book_laws.proofs.Contents.{came_from, content-append, content_more, taken_in, taken_keeps, once_more}
 use Rattle.book_laws.proofs.Uploads.{numbered_at, own_columns}
 
 module _ (order : Order) (w : Scenario) where
@@ -79,6 +81,16 @@ module _ (order : Order) (w : Scenario) where
   pub legal_front : (l m n : List UploadData) → AreLegalNext order w l (m ++ n) → AreLegalNext order w l m
   legal_front l [] n all = tt
   legal_front l (r ∷ m) n all = (all.0, legal_front (l ++ r ∷ []) m n all.1)
+
+  -- by positions: each record may come after those before it
+  pub legal_at : (l more : List UploadData) → ((i : ℕ) (r : UploadData) → slice_get more i ≡ Some r → IsLegalNext order w (l ++ take i more) r) →
+      AreLegalNext order w l more
+  legal_at l [] each = tt
+  legal_at l (r ∷ more) each = (
+    subst (λ (x : List UploadData). IsLegalNext order w x r) (append-nil l) (each 0 r refl),
+    legal_at (l ++ r ∷ []) more
+        (λ i s h. subst (λ (x : List UploadData). IsLegalNext order w x s) (sym (append_assoc l (r ∷ []) (take i more))) (each (suc i) s h)),
+  )
 
   pub legal_append : (l m n : List UploadData) → AreLegalNext order w l m → AreLegalNext order w (l ++ m) n → AreLegalNext order w l (m ++ n)
   legal_append l [] n all more = subst (λ (x : List UploadData). AreLegalNext order w x n) (append-nil l) more

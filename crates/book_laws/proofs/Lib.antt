@@ -6,6 +6,4 @@ pub mod Growing
 pub mod Refusals
 pub mod Truth
 pub mod Leaving
-pub mod Progress
-pub mod Turns
 pub mod Rows

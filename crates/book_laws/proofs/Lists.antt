@@ -39,28 +39,6 @@ flat_at f (x ∷ xs) (suc h) q d e low inside =
           ∙ ap (λ n. slice_index_or (flat_map f xs) n e) back ∙ rest.is;
     }
 
-pub offset_next : {X Y : Type 0} (f : X → List Y) (xs : List X) (h : ℕ) (d : X) → h < length xs →
-    offset f xs (suc h) ≡ offset f xs h + length (f (slice_index_or xs h d))
-offset_next f [] h d low = absurd (omega (arith, low))
-offset_next f (x ∷ xs) zero d low = let size = length-append (f x) [] in omega (arith, size)
-offset_next f (x ∷ xs) (suc h) d low =
-    let rest = offset_next f xs h d (omega (arith, low)) in
-    let more = length-append (f x) (flat_map f (take (suc h) xs)) in
-    let fewer = length-append (f x) (flat_map f (take h xs)) in
-    omega (arith, rest, more, fewer)
-
-pub offset_rises : {X Y : Type 0} (f : X → List Y) (xs : List X) (h i : ℕ) → h ≤ i → offset f xs h ≤ offset f xs i
-offset_rises f [] zero i low = omega arith
-offset_rises f [] (suc h) zero low = absurd (omega (arith, low))
-offset_rises f [] (suc h) (suc i) low = omega arith
-offset_rises f (x ∷ xs) zero i low = omega arith
-offset_rises f (x ∷ xs) (suc h) zero low = absurd (omega (arith, low))
-offset_rises f (x ∷ xs) (suc h) (suc i) low =
-    let rest = offset_rises f xs h i (omega (arith, low)) in
-    let more = length-append (f x) (flat_map f (take i xs)) in
-    let fewer = length-append (f x) (flat_map f (take h xs)) in
-    omega (arith, rest, more, fewer)
-
 -- where the one at place p comes from
 pub record Origin {X Y : Type 0} (f : X → List Y) (xs : List X) (d : X) (p : ℕ) : Type 0 where
   pub at : ℕ

@@ -21,6 +21,7 @@ use Rattle.column_book.specs.Outcomes.{IsConflict, IsPastRoom, Follows}
 use Rattle.column_book.proofs.Joins.{keys_total, in_order, join_in_order, found-join}
 use Rattle.column_book.proofs.Outcomes as outcomes
 use Rattle.scenario_parts.specs.Whole.{IsWhole}
+use Rattle.upload_world.specs.Pumps.{Has}
 use Rattle.run_laws.specs.Truth.{IsFrozenColumn, book_of}
 use Rattle.run_laws.proofs.Agreeing.{cells_at}
 use Rattle.run_laws.proofs.Insertions.{longer}
@@ -28,7 +29,7 @@ use Rattle.run_laws.proofs.True.{true_run}
 use Rattle.book_laws.specs.Legal.{Order, AreLegalNext, uploads_at, upload_at}
 use Rattle.book_laws.specs.Keeping.{HasKeysOnce, IsClash, IsOverfull, IsCaused}
 use Rattle.book_laws.specs.Laws.{LawOfRefusals}
-use Rattle.book_laws.proofs.Contents.{Has, came_from, some_found, content_in_order, as_many}
+use Rattle.book_laws.proofs.Contents.{came_from, some_found, content_in_order, as_many}
 use Rattle.book_laws.proofs.Uploads.{numbered_at, own_columns, own_sized}
 use Rattle.book_laws.proofs.Legal.{legal_once, found_from}
 

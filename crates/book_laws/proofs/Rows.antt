@@ -10,19 +10,23 @@ use Rattle.sketchlet_wire.specs.Uploads.{UploadData, holds_key}
 use Rattle.column_book.specs.declared.book.TheConstants.{ROOM}
 use Rattle.column_book.specs.declared.fault.BookFault.{BookFault}
 use Rattle.column_book.specs.Applying.{decide}
-use Rattle.book_laws.specs.Legal.{Order, in_order, upload_at, order_at, before_first, IsApart, IsLegalNext, AreLegalNext, IsLegal}
-use Rattle.book_laws.specs.Rows.{sole, left, right, dearer, dear, record_of, WorkedBooks}
+use Rattle.link_deliveries.specs.Deliveries.{delivered, brought_in_all}
+use Rattle.upload_world.specs.Pumps.{before_first}
+use Rattle.book_laws.specs.Legal.{Order, upload_at, order_at, IsApart, IsLegalNext, AreLegalNext, IsLegal}
+use Rattle.book_laws.specs.Rows.{sole, left, right, dearer, dear, lossy, record_of, WorkedBooks}
 use Rattle.book_laws.specs.Keeping.{IsClash}
 use Rattle.book_laws.proofs.Lists.{same_rest}
 
 abbrev once : Scenario
 once = first 20 first_again
 
-first_next : IsLegalNext in_order once [] (record_of 0 (sole ∷ []))
+first_next : IsLegalNext delivered once [] (record_of 0 (sole ∷ []))
+unfolding brought_in_all
 first_next = record { at = 0; declared = omega arith; sent = omega arith; host = refl; stored = refl; some = omega arith; first = All-nil _ }
 
 -- the third upload of the late run, after the record of the first
-third_next : IsLegalNext in_order late (record_of 0 (left ∷ []) ∷ []) (record_of 2 (right ∷ []))
+third_next : IsLegalNext delivered late (record_of 0 (left ∷ []) ∷ []) (record_of 2 (right ∷ []))
+unfolding brought_in_all
 third_next = record {
   at = 0;
   declared = omega arith;
@@ -36,8 +40,13 @@ third_next = record {
     free : All (λ (c : Column). holds_key c.key (left ∷ []) ≡ false) (right ∷ [])
     free = All-from_recursion (λ (c : Column). holds_key c.key (left ∷ []) ≡ false) (right ∷ []) (refl, tt)
 
-late_next : IsLegalNext in_order late [] (record_of 0 (left ∷ []))
+late_next : IsLegalNext delivered late [] (record_of 0 (left ∷ []))
+unfolding brought_in_all
 late_next = record { at = 0; declared = omega arith; sent = omega arith; host = refl; stored = refl; some = omega arith; first = All-nil _ }
+
+lossy_next : IsLegalNext delivered lossy [] (record_of 1 (sole ∷ []))
+unfolding brought_in_all
+lossy_next = record { at = 0; declared = omega arith; sent = omega arith; host = refl; stored = refl; some = omega arith; first = All-nil _ }
 
 -- ---- lists that aren't legal
 
@@ -50,21 +59,32 @@ Taken = Result (List Column) BookFault
 none_taken : (c : Column) → ◌≡◌ {A = Taken} (Ok []) (Ok (c ∷ [])) → ⊥
 none_taken c h = absurd (cc h)
 
-not_twice : IsLegal in_order once [] (record_of 0 (sole ∷ []) ∷ record_of 0 (sole ∷ []) ∷ []) → ⊥
+not_twice : IsLegal delivered once [] (record_of 0 (sole ∷ []) ∷ record_of 0 (sole ∷ []) ∷ []) → ⊥
 not_twice legal =
-    let second = (each_of in_order once [] (record_of 0 (sole ∷ []) ∷ record_of 0 (sole ∷ []) ∷ []) legal).1.0 in
+    let second = (each_of delivered once [] (record_of 0 (sole ∷ []) ∷ record_of 0 (sole ∷ []) ∷ []) legal).1.0 in
     at_host second.at second.declared second.stored
   where
     at_host : (h : ℕ) → h < 1 → decide once.shape ROOM (record_of 0 (sole ∷ []) ∷ []) (upload_at once h 0) ≡ Ok (sole ∷ []) → ⊥
     at_host zero low stored = none_taken sole stored
     at_host (suc h) low stored = omega (arith, low)
 
-not_the_third : IsLegal in_order late [] (record_of 2 (left ∷ right ∷ []) ∷ []) → ⊥
-not_the_third legal =
-    let next = (each_of in_order late [] (record_of 2 (left ∷ right ∷ []) ∷ []) legal).0 in
+not_the_lost : IsLegal delivered lossy [] (record_of 0 (sole ∷ []) ∷ []) → ⊥
+unfolding brought_in_all
+not_the_lost legal =
+    let next = (each_of delivered lossy [] (record_of 0 (sole ∷ []) ∷ []) legal).0 in
     at_host next.at next.declared next.first
   where
-    at_host : (h : ℕ) → h < 1 → All (λ q. IsApart (record_of 2 (left ∷ right ∷ [])) (upload_at late h q)) (before_first 2 (order_at in_order late h)) → ⊥
+    at_host : (h : ℕ) → h < 1 → All (λ q. IsApart (record_of 0 (sole ∷ [])) (upload_at lossy h q)) (before_first 0 (order_at delivered lossy h)) → ⊥
+    at_host zero low first = true≢false (first 0 1 (omega arith) 0 sole (omega arith))
+    at_host (suc h) low first = omega (arith, low)
+
+not_the_third : IsLegal delivered late [] (record_of 2 (left ∷ right ∷ []) ∷ []) → ⊥
+unfolding brought_in_all
+not_the_third legal =
+    let next = (each_of delivered late [] (record_of 2 (left ∷ right ∷ []) ∷ []) legal).0 in
+    at_host next.at next.declared next.first
+  where
+    at_host : (h : ℕ) → h < 1 → All (λ q. IsApart (record_of 2 (left ∷ right ∷ [])) (upload_at late h q)) (before_first 2 (order_at delivered late h)) → ⊥
     at_host zero low first = true≢false (first 0 0 (omega arith) 0 left (omega arith))
     at_host (suc h) low first = omega (arith, low)
 
@@ -85,17 +105,25 @@ clash = record {
 }
 
 pub worked : WorkedBooks
+unfolding brought_in_all
 worked = record {
   one_upload = refl;
   no_upload = refl;
   three_uploads = refl;
+  four_uploads = refl;
+  plain_order = refl;
+  lossy_order = refl;
   two_before = refl;
-  in_turn = refl;
+  four_before = refl;
+  known = refl;
+  one_more = refl;
   refused = refl;
   clash = clash;
   first_book = record { more = record_of 0 (sole ∷ []) ∷ []; begins = refl; each = (first_next, tt) };
   nothing_new = record { more = []; begins = refl; each = tt };
   late_book = record { more = record_of 0 (left ∷ []) ∷ record_of 2 (right ∷ []) ∷ []; begins = refl; each = (late_next, (third_next, tt)) };
+  lossy_book = record { more = record_of 1 (sole ∷ []) ∷ []; begins = refl; each = (lossy_next, tt) };
+  not_the_lost = not_the_lost;
   not_twice = not_twice;
   not_the_third = not_the_third;
 }

@@ -14,12 +14,12 @@ use Rattle.sketchlet_wire.specs.Uploads.{UploadData, IsUpload, upload_of}
 use Rattle.host_collect.specs.Cutting.{Piece, cut}
 use Rattle.host_collect.proofs.Cutting.{cut_law}
 use Rattle.column_book.specs.Entries.{columns_in}
+use Rattle.upload_world.specs.Pumps.{no_upload}
 use Rattle.run_laws.specs.Booking.{host_uploads, uploads_of}
 use Rattle.run_laws.proofs.Bookings.{columns_from}
 use Rattle.run_laws.proofs.Brought.{all_flat as each_flat, brought_dims}
-use Rattle.book_laws.specs.Legal.{no_host, host_at, uploads_at, no_upload, upload_at}
-use Rattle.book_laws.specs.Turns.{count_before}
-use Rattle.book_laws.proofs.Lists.{flat_at, origin, in_flat, offset_next, offset_rises}
+use Rattle.book_laws.specs.Legal.{no_host, host_at, uploads_at, upload_at}
+use Rattle.book_laws.proofs.Lists.{offset, flat_at, origin, in_flat}
 
 -- ---- one upload of a host
 
@@ -54,6 +54,10 @@ numbered_at w h q low =
     }
 
 -- ---- where it stands among all
+
+-- how many uploads the hosts before the one at position h have
+abbrev pub count_before : Scenario → (h : ℕ) → ℕ
+count_before w h = offset (host_uploads w) (enumerate_from 0 w.hosts) h
 
 host_there : (w : Scenario) (h : ℕ) → h < length w.hosts → slice_index_or (enumerate_from 0 w.hosts) h (0, no_host) ≡ (h, host_at w h)
 host_there w h low =
@@ -99,17 +103,6 @@ sent_at w p low =
       place = o.is;
       is = ap (λ (n : ℕ). slice_index_or (uploads_of w) n no_upload) o.is ∙ (placed_at w o.at o.nth declared sent).is;
     }
-
--- ---- how many come before a host's
-
-pub count_next : (w : Scenario) (h : ℕ) → h < length w.hosts → count_before w (suc h) ≡ count_before w h + length (uploads_at w h)
-count_next w h declared =
-    let many = length-enumerate_from 0 w.hosts in
-    offset_next (host_uploads w) (enumerate_from 0 w.hosts) h (0, no_host) (omega (arith, declared, many))
-    ∙ ap (λ (x : ℕ × HostLine). count_before w h + length (host_uploads w x)) (host_there w h declared)
-
-pub count_rises : (w : Scenario) (h i : ℕ) → h ≤ i → count_before w h ≤ count_before w i
-count_rises w h i low = offset_rises (host_uploads w) (enumerate_from 0 w.hosts) h i low
 
 -- ---- the columns
 

@@ -1,5 +1,5 @@
 -- The laws of a run over a book.
-use Rattle.std.specs.Prelude.{◌≡◌, ℕ, ◌+◌, ◌<◌, ◌≤◌, nat_lt, true, false, List, [], ◌∷◌, ◌++◌, length, drop, All, Contains, Ok, Err}
+use Rattle.std.specs.Prelude.{◌≡◌, ℕ, ◌<◌, List, length, drop, All, Contains, Option, None, Err, IsOk, slice_index_or}
 use mathlib.Core.List.{IsPrefix}
 use Rattle.lg_model.specs.Placing.{Shape}
 use Rattle.lg_model.specs.Scenario.{Scenario}
@@ -11,16 +11,21 @@ use Rattle.column_book.specs.declared.book.TheConstants.{ROOM}
 use Rattle.column_book.specs.declared.entry.Entry.{Entry}
 use Rattle.column_book.specs.declared.fault.BookFault.{BookFault}
 use Rattle.column_book.specs.Entries.{records, columns_in, content_in}
-use Rattle.column_book.specs.Applying.{decide, stored_entry, with_new}
+use Rattle.column_book.specs.Applying.{decide}
 use Rattle.book_file.specs.Between.{Files}
 use Rattle.book_file.specs.File.{StandsFor}
-use Rattle.run_laws.specs.Booking.{uploads_of}
+use Rattle.book_journal.specs.declared.applied.ApplyFault.{ApplyFault}
+use Rattle.book_journal.specs.Runs.{with_fault}
+use Rattle.lock_rule.specs.declared.view.View.{View}
+use Rattle.lock_rule.specs.Closing.{Closes}
+use Rattle.link_deliveries.specs.Deliveries.{delivered}
+use Rattle.upload_world.specs.declared.fault.WorkFault.TheVariants.{Refused}
 use Rattle.scenario_parts.specs.Whole.{IsWhole}
-use Rattle.book_laws.specs.Legal.{Order, in_order, IsLegal, uploads_at, upload_at}
+use Rattle.book_laws.specs.Legal.{Order, IsLegal, uploads_at, upload_at}
 use Rattle.book_laws.specs.Leaving.{IsLeft, IsLeftByFiles}
 use Rattle.book_laws.specs.Keeping.{IsHeld, AllHeld, HasKeysOnce, IsJoined, IsCaused, AreAcked}
 use Rattle.book_laws.specs.Truth.{IsTrueFrom}
-use Rattle.book_laws.specs.Turns.{Turn, applied, IsFirstRefused, HasApplied, count_before, among_first}
+use Rattle.book_laws.specs.Workers.{Worker, IsWork, AreJoined, acks_of, IsExplained}
 
 -- ---- legal lists
 
@@ -65,46 +70,26 @@ LawOfFilesLeft was now since = (order : Order) (w : Scenario) (before kept full 
     → IsLeft (StandsFor w.shape) order w before was now since kept full
     → IsLeftByFiles (StandsFor w.shape) order w before was now since
 
--- ---- uploads in turn
+-- ---- one worker per host
 
--- What holds after the first uploads of a scenario were applied in turn. The list is legal, and stays so with the
--- record of the next upload, which may be on the disk where a call of it failed. The uploads that were applied are
--- acknowledged. After the last one all that is brought is there; where all of it was found, nothing is added. Where
--- the next upload is refused, the cause is that of the law of refusals.
-pub record IsInTurn (w : Scenario) (first : List Entry) (turns : List Turn) (es : List Entry)
-    (rest : List UploadData) : Type 0 where
-  pub begins : IsPrefix first es
-  pub legal : IsLegal in_order w (records first) (records es)
-  pub next : (pass : ℕ) (u : UploadData) (more : List UploadData) → rest ≡ u ∷ more
-      → decide w.shape ROOM (records es) u ≡ Ok (stored_entry pass es u).stored.columns
-      → 1 ≤ length (stored_entry pass es u).stored.columns
-      → IsLegal in_order w (records first) (records (es ++ stored_entry pass es u ∷ []))
-  pub acked : AreAcked w (records first) (records es) (among_first w (length turns))
-  pub done : rest ≡ [] → AllHeld w (records es) × IsJoined w (records first) (records es)
-  pub repeats : AllHeld w (records first) → es ≡ first
-  pub refused : IsWhole w → HasKeysOnce (records first)
-      → (u : UploadData) (more : List UploadData) (fault : BookFault) → rest ≡ u ∷ more
-      → decide w.shape ROOM (records es) u ≡ Err fault → IsCaused w (records first) fault
+-- What holds once all workers are done and the book is closed; where its journal is broken, one record more may be on the
+-- disk. The list is legal, and stays so with that record. All columns of an acknowledged upload are kept; and of a host
+-- whose link drops no reply, each upload of which a record was added is acknowledged. Where every worker ended well, all
+-- that is brought is there, and the journal isn't broken. Where the book refused an upload, there is a cause for it. And
+-- where all that is brought was found, nothing is added.
+pub record HasWorked (w : Scenario) (first entries : List Entry) (fault : Option Entry) (ps : List Worker) : Type 0 where
+  pub begins : IsPrefix first entries
+  pub legal : IsLegal delivered w (records first) (records (with_fault entries fault))
+  pub acks : AreAcked w (records first) (records entries) (acks_of ps)
+  pub done : All (λ (p : Worker). IsOk p.result) ps → AllHeld w (records entries) × IsJoined w (records first) (records entries)
+  pub sound : All (λ (p : Worker). IsOk p.result) ps → fault ≡ None
+  pub refused : IsWhole w → (h : ℕ) (d : Worker) (q : ℕ) (why : ApplyFault) → h < length ps
+      → (slice_index_or ps h d).result ≡ Err (Refused q why) → IsExplained w (records first) fault why
+  pub repeats : AllHeld w (records first) → (entries ≡ first) × (fault ≡ None)
 
--- A run begins with all uploads to come, and goes on with each one that is taken; so it comes to all of them, or to the
--- first that is refused.
-pub record LawOfTurns : Type 0 where
-  pub start : (w : Scenario) (first : List Entry) → HasApplied w first [] first (uploads_of w)
-  pub step : (w : Scenario) (first : List Entry) (turns : List Turn) (es : List Entry) (u : UploadData)
-      (rest : List UploadData) (pass : ℕ) (new : List Column) → HasApplied w first turns es (u ∷ rest)
-      → decide w.shape ROOM (records es) u ≡ Ok new
-      → HasApplied w first (turns ++ (pass, u) ∷ []) (with_new es pass u new) rest
-  pub holds : (w : Scenario) (first : List Entry) (turns : List Turn) (es : List Entry) (rest : List UploadData)
-      → HasApplied w first turns es rest → IsInTurn w first turns es rest
-  pub refused : (shape : Shape) (es : List Entry) (turns : List Turn) (fault : BookFault)
-      → applied shape es turns ≡ Err fault → IsFirstRefused shape es turns fault
-
--- Which uploads are among the first k of the host at position h and all of the hosts before it: all of those hosts, the
--- first k of this one, and none of the later hosts.
-pub record AreAmong (w : Scenario) (h k : ℕ) : Type 0 where
-  pub earlier : (i q : ℕ) → i < h → q < length (uploads_at w i) → among_first w (count_before w h + k) i q ≡ true
-  pub here : (q : ℕ) → among_first w (count_before w h + k) h q ≡ nat_lt q k
-  pub later : (i q : ℕ) → h < i → among_first w (count_before w h + k) i q ≡ false
-
-abbrev pub LawOfCounts : Type 0
-LawOfCounts = (w : Scenario) (h k : ℕ) → h < length w.hosts → k ≤ length (uploads_at w h) → AreAmong w h k
+-- It holds however the workers ran, where each did what a pump promises with the pass of its host.
+abbrev pub LawOfWorkers : Type 0
+LawOfWorkers = (w : Scenario) (first entries : List Entry) (fault : Option Entry) (v : View) (ps : List Worker)
+    → HasKeysOnce (records first) → length ps ≡ length w.hosts → Closes first v entries fault → AreJoined first v ps
+    → ((h : ℕ) (d : Worker) → h < length ps → IsWork w h first (slice_index_or ps h d))
+    → HasWorked w first entries fault ps

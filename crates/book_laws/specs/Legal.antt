@@ -1,13 +1,13 @@
 -- The lists of records that a run over a book may leave, from the list that it found.
-use Rattle.std.specs.Prelude.{◌≡◌, ℕ, ◌<◌, ◌≤◌, ◌==◌, not, false, List, [], ◌∷◌, ◌++◌, length, All, slice_index_or, Ok}
-use Rattle.std.specs.List.{take_while, range_with_len}
+use Rattle.std.specs.Prelude.{◌≡◌, ℕ, ◌<◌, ◌≤◌, false, List, [], ◌∷◌, ◌++◌, length, All, slice_index_or, Ok}
 use Rattle.lg_model.specs.declared.scenario.HostLine.{HostLine}
 use Rattle.lg_model.specs.declared.scenario.Letter.{Letter}
 use Rattle.lg_model.specs.Scenario.{Scenario}
 use Rattle.lg_model.specs.Columns.{Column}
-use Rattle.sketchlet_wire.specs.Uploads.{UploadData, holds_key, upload_of}
+use Rattle.sketchlet_wire.specs.Uploads.{UploadData, holds_key}
 use Rattle.column_book.specs.declared.book.TheConstants.{ROOM}
 use Rattle.column_book.specs.Applying.{decide}
+use Rattle.upload_world.specs.Pumps.{no_upload, before_first}
 use Rattle.run_laws.specs.Booking.{host_uploads}
 
 -- ---- the uploads of a host
@@ -23,10 +23,6 @@ host_at w h = slice_index_or w.hosts h no_host
 abbrev pub uploads_at : Scenario → (h : ℕ) → List UploadData
 uploads_at w h = host_uploads w (h, host_at w h)
 
--- The upload of no columns, for a number that no upload has.
-abbrev pub no_upload : UploadData
-no_upload = upload_of 0 0 []
-
 -- Its upload of number q.
 abbrev pub upload_at : Scenario → (h q : ℕ) → UploadData
 upload_at w h q = slice_index_or (uploads_at w h) q no_upload
@@ -38,16 +34,8 @@ upload_at w h q = slice_index_or (uploads_at w h) q no_upload
 abbrev pub Order : Type 0
 Order = (n : ℕ) → List Letter → List ℕ
 
--- One upload after the other, whatever the letters are.
-abbrev pub in_order : Order
-in_order n letters = range_with_len 0 n
-
 abbrev pub order_at : Order → Scenario → (h : ℕ) → List ℕ
 order_at order w h = order (length (uploads_at w h)) (host_at w h).letters
-
--- The numbers before the first q.
-abbrev pub before_first : (q : ℕ) → List ℕ → List ℕ
-before_first q ns = take_while (λ n. not (n == q)) ns
 
 -- ---- legal lists
 

@@ -2,6 +2,6 @@ pub mod Legal
 pub mod Leaving
 pub mod Keeping
 pub mod Truth
-pub mod Turns
+pub mod Workers
 pub mod Laws
 pub mod Rows

@@ -1,6 +1,6 @@
 //! Laws over the definitions alone, on functions with empty bodies.
-ghost use Rattle.book_laws.specs.Laws.{LawOfLegalLists, LawOfRefusals, LawOfTrueLists, LawOfStanding, LawOfTurns};
-ghost use Rattle.book_laws.specs.Laws.{LawOfCounts, LawOfFilesLeft};
+ghost use Rattle.book_laws.specs.Laws.{LawOfLegalLists, LawOfRefusals, LawOfTrueLists, LawOfStanding, LawOfFilesLeft};
+ghost use Rattle.book_laws.specs.Laws.{LawOfWorkers};
 ghost use Rattle.book_laws.specs.Rows.{WorkedBooks};
 
 use lg_disk::Disk;
@@ -38,13 +38,13 @@ pub fn files_left_are_legal<D: Disk>(old: &D, new: &D)
     let _ = new;
 }
 
-/// The law of turns: the uploads of a scenario, applied one after the other, keep the list legal. Those that were
-/// applied are acknowledged, and after the last one all that is brought is there. Where one is refused, the cause is
-/// that of the law of refusals. Those applied before are all of the earlier hosts and the first ones of the refused
-/// one's host.
-pub fn turns_are_legal()
-    ensures turns { LawOfTurns }
-    ensures counts { LawOfCounts }
+/// The law of workers: each host has a worker, whose pass pumps the host's uploads over its link into one book. However
+/// the workers ran, the list that they leave is legal, and so it is with the record that may be on the disk where the
+/// journal broke. All columns of an acknowledged upload are kept. Where every worker ended well, all that is brought is
+/// there; where the book refused an upload, the cause is that of the law of refusals, or the journal is broken
+/// (docs/DEFINITIONS.md, Runs over a book).
+pub fn workers_leave_legal_lists()
+    ensures { LawOfWorkers }
 {}
 
 /// Worked runs: their uploads, the lists that they leave, two lists that no run of them leaves, and a clash.

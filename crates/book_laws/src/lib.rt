@@ -7,7 +7,7 @@
 //! | [`lists_are_true`] | the law: what a run adds is true, and so are its answers |
 //! | [`files_stand_for_one_list`] | the law: a file stands for one list, with no key twice |
 //! | [`files_left_are_legal`] | the law: what a run leaves on a disk, file by file |
-//! | [`turns_are_legal`] | the law: what holds of uploads that are applied one after the other |
+//! | [`workers_leave_legal_lists`] | the law: what holds once a worker per host is done and the book is closed |
 //! | [`worked_books`] | worked runs: uploads, legal lists and others, a clash |
 #![tactic(auto)]
 
@@ -15,5 +15,5 @@ mod laws;
 
 pub use laws::{
     files_left_are_legal, files_stand_for_one_list, legal_lists_grow, lists_are_true,
-    refusals_have_causes, turns_are_legal, worked_books,
+    refusals_have_causes, worked_books, workers_leave_legal_lists,
 };
