@@ -1,6 +1,6 @@
 -- What is found in the content of records.
 use Rattle.std.specs.Prelude.{◌≡◌, ℕ, zero, suc, ◌+◌, ◌<◌, ◌⊎◌, Bool, true, false, cond, List, [], ◌∷◌}
-use Rattle.std.specs.Prelude.{◌++◌, length, fold, map, filter, All, Contains, Option, None, Some, IfSome, is_none, slice_index_or, Result, Ok}
+use Rattle.std.specs.Prelude.{◌++◌, length, fold, map, All, Contains, Option, None, Some, IfSome, is_none, slice_index_or, Result, Ok}
 use Rattle.std.specs.List.{AllByRecursion, IsDistinct}
 use Rattle.std.specs.Option.{option_or}
 use Rattle.std.specs.BTreeMap.{is_at}
@@ -28,7 +28,7 @@ use Rattle.column_book.proofs.Joins.{keys_total, in_order, found-join}
 use Rattle.column_book.proofs.Joins as joins
 use Rattle.upload_world.specs.Pumps.{Has}
 use Rattle.run_laws.proofs.Found.{agrees_all, none_has}
-use Rattle.book_laws.specs.Keeping.{IsHeld, HasKeysOnce}
+use Rattle.book_laws.specs.Keeping.{HasKeysOnce}
 use Rattle.book_laws.proofs.Lists.{contains_map}
 
 -- ---- options
@@ -133,16 +133,6 @@ says_itself (d ∷ cs) apart c has = by has.0 has.1 has.2 (λ h. says_itself cs 
 -- where no key stands twice, each column is found
 pub once_found : (cs : List Column) → IsDistinct same_column_key (keys_of cs) → (c : Column) → Contains cs c → found (content_of cs) c.key ≡ Some c.cells
 once_found cs apart c has = is_found [] cs c (says_itself cs apart c has) has
-
--- each column of an upload is found in its content
-pub own_found : (cs : List Column) → IsUpload cs → (c : Column) → Contains cs c → found (content_of cs) c.key ≡ Some c.cells
-own_found cs is c has =
-    once_found cs (subst (λ (xs : List Column). IsDistinct same_column_key (keys_of xs)) (all_pass cs)
-    (distinct_new (λ (x : Column). true) cs is.apart)) c has
-  where
-    all_pass : (xs : List Column) → filter (λ (x : Column). true) xs ≡ xs
-    all_pass [] = refl
-    all_pass (x ∷ xs) = ap (λ (ys : List Column). x ∷ ys) (all_pass xs)
 
 pub new_absent : (m : Content) (cs : List Column) → All (λ (c : Column). found m c.key ≡ None) (new_columns m cs)
 new_absent m cs =
@@ -270,11 +260,3 @@ pub taken_keeps : (l : List UploadData) (u : UploadData) (new : List Column) →
     found (fold with_column (content_in l) new) k ≡ Some v
 taken_keeps l u new is k v h =
     ap (λ (m : Content). found m k) is.joined ∙ join_keeps (content_in l) (content_of u.columns) k v (in_order [] u.columns tt) is.joinable h
-
--- and so is each column of it
-pub taken_holds : (l : List UploadData) (u : UploadData) (new : List Column) → IsTakenIn l u new → IsUpload u.columns →
-    All (IsHeld (fold with_column (content_in l) new)) u.columns
-taken_holds l u new is whole =
-    All-weaker (Contains u.columns) (IsHeld (fold with_column (content_in l) new)) (λ c has.
-    ap (λ (m : Content). found m c.key) is.joined ∙ found-join (content_in l) (content_of u.columns) c.key (in_order [] u.columns tt)
-    ∙ ap (λ (o : Option Cells). option_or o (found (content_in l) c.key)) (own_found u.columns whole c has)) u.columns (All-contains_itself u.columns)

@@ -8,7 +8,7 @@ use mathlib.Core.List.{IsPrefix}
 use Rattle.lg_model.specs.Placing.{Shape}
 use Rattle.lg_model.specs.Scenario.{Scenario}
 use Rattle.sketchlet_wire.specs.Uploads.{UploadData}
-use Rattle.book_file.specs.Between.{Files, Standing, IsBetween}
+use Rattle.book_file.specs.Between.{Files, Standing}
 use Rattle.book_file.specs.File.{IsBlank, StandsFor}
 use Rattle.book_file.proofs.Law as files
 use Rattle.book_laws.specs.Legal.{Order, IsLegal}
@@ -16,7 +16,7 @@ use Rattle.book_laws.specs.Keeping.{HasKeysOnce}
 use Rattle.book_laws.specs.Leaving.{IsSettled, IsLeft, IsLeftByFiles}
 use Rattle.book_laws.specs.Laws.{LawOfStanding, LawOfFilesLeft}
 use Rattle.book_laws.proofs.Growing.{legal_between}
-use Rattle.book_laws.proofs.Lists.{front_itself, front_of_front, front_length, shorter_front}
+use Rattle.book_laws.proofs.Lists.{front_length, shorter_front}
 
 -- ---- what a file stands for
 
@@ -50,33 +50,6 @@ pub standing : LawOfStanding
 standing = record { one = one_list; once = keys_once }
 
 module _ (stands : Standing) (order : Order) (w : Scenario) (before kept full : List UploadData) (was now since : Files) where
-  -- from what is left by opening the book, and by the run after it
-  pub is_left : (opened : Files) → IsLegal order w before full → IsPrefix before kept → IsPrefix kept full → length full ≤ length kept + 1 →
-      ((c : List ℕ) → opened c → was c ⊎ stands before c) → (IsSettled stands before was → (c : List ℕ) → opened c → stands before c) →
-      ((c : List ℕ) → since c → opened c ⊎ IsBetween stands before full c) → ((c : List ℕ) → now c → stands kept c ⊎ stands full c) →
-      IsLeft stands order w before was now since kept full
-  is_left opened legal least front one_more open_each open_settled run_before run_now = record {
-    legal = legal;
-    least = least;
-    front = front;
-    one_more = one_more;
-    now_is = run_now;
-    moments = λ c s. elim (run_before c s) as (λ _. was c ⊎ IsBetween stands before full c) [
-      | inl o ↦ elim (open_each c o) as (λ _. was c ⊎ IsBetween stands before full c) [
-        | inl old ↦ inl old
-        | inr is ↦ inr (at_first c is)
-      ]
-      | inr is ↦ inr is
-    ];
-    settled = λ set c s. elim (run_before c s) as (λ _. IsBetween stands before full c) [
-      | inl o ↦ at_first c (open_settled set c o)
-      | inr is ↦ is
-    ];
-  }
-    where
-      at_first : (c : List ℕ) → stands before c → IsBetween stands before full c
-      at_first c is = record { list = before; is = is; begins = front_itself before; ends = front_of_front before kept full least front }
-
   -- file by file, where a file stands for one list
   pub by_files : ((c : List ℕ) (l m : List UploadData) → stands l c → stands m c → l ≡ m)
       → IsLeft stands order w before was now since kept full →

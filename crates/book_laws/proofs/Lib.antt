@@ -6,4 +6,6 @@ pub mod Growing
 pub mod Refusals
 pub mod Truth
 pub mod Leaving
+pub mod Places
+pub mod Workers
 pub mod Rows

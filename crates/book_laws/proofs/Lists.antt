@@ -1,8 +1,8 @@
 -- Positions in lists of lists, places after an append, and fronts of lists.
-use Rattle.std.specs.Prelude.{◌≡◌, ℕ, zero, suc, ◌+◌, ◌-◌, ◌<◌, ◌≤◌, ◌⊎◌, List, [], ◌∷◌, ◌++◌, length, map, take, All, Contains, Some, slice_index_or}
+use Rattle.std.specs.Prelude.{◌≡◌, ℕ, zero, suc, ◌+◌, ◌-◌, ◌<◌, ◌≤◌, List, [], ◌∷◌, ◌++◌, length, map, take, All, Contains, slice_index_or}
 use Rattle.std.specs.List.{flat_map, slice_get}
-use Rattle.std.proofs.Common.{refl, sym, ap, ◌∙◌, arith, inl, inr, append_assoc, length-append}
-use Rattle.std.proofs.lemmas.List.{append-nil, length-map, get_or-map, get_or_append_left, get_or-append_right}
+use Rattle.std.proofs.Common.{refl, ap, ◌∙◌, arith, inl, inr, length-append}
+use Rattle.std.proofs.lemmas.List.{length-map, get_or-map, get_or_append_left, get_or-append_right}
 use Rattle.std.proofs.lemmas.List.Elements.{All-nil, All-head, All-tail, All-append, Contains-append_left, Contains-append_right}
 use Rattle.std.proofs.lemmas.Bool.{cases_lt}
 use mathlib.Core.List.{IsPrefix}
@@ -79,22 +79,7 @@ pub get_right : {X : Type 0} (xs ys : List X) (i : ℕ) → slice_get (xs ++ ys)
 get_right [] ys i = let e : 0 + i ≡ i = omega arith in ap (λ n. slice_get ys n) e
 get_right (x ∷ xs) ys i = let e : length (x ∷ xs) + i ≡ suc (length xs + i) = omega arith in ap (λ n. slice_get (x ∷ xs ++ ys) n) e ∙ get_right xs ys i
 
-some_of : {X : Type 0} (x y : X) → Some x ≡ Some y → x ≡ y
-some_of x y h = cc h
-
-pub get_last : {X : Type 0} (xs : List X) (x y : X) (i : ℕ) → slice_get (xs ++ x ∷ []) i ≡ Some y → (slice_get xs i ≡ Some y) ⊎ (x ≡ y)
-get_last [] x y zero h = inr (some_of x y h)
-get_last [] x y (suc i) h = absurd (cc h)
-get_last (z ∷ xs) x y zero h = inl h
-get_last (z ∷ xs) x y (suc i) h = get_last xs x y i h
-
 -- ---- fronts of lists
-
-pub front_itself : {X : Type 0} (xs : List X) → IsPrefix xs xs
-front_itself xs = ([], append-nil xs)
-
-pub front_of_front : {X : Type 0} (xs ys zs : List X) → IsPrefix xs ys → IsPrefix ys zs → IsPrefix xs zs
-front_of_front xs ys zs p q = (p.0 ++ q.0, sym (append_assoc xs p.0 q.0) ∙ (ap (λ w. w ++ q.0) p.1 ∙ q.1))
 
 pub front_length : {X : Type 0} (xs ys : List X) → IsPrefix xs ys → length xs ≤ length ys
 front_length xs ys p = let same = ap length p.1 in omega (arith, same, length-append xs p.0)
