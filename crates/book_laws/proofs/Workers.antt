@@ -45,7 +45,7 @@ use Rattle.run_laws.specs.Booking.{uploads_of}
 use Rattle.scenario_parts.specs.Whole.{IsWhole}
 use Rattle.book_laws.specs.Legal.{IsLegalNext, AreLegalNext, IsLegal, host_at, uploads_at, upload_at, order_at}
 use Rattle.book_laws.specs.Keeping.{IsHeld, AllHeld, HasKeysOnce, IsJoined, IsCaused, AreAcked, IsAnswered}
-use Rattle.book_laws.specs.Workers.{Worker, IsWork, AreJoined, acks_of, IsExplained}
+use Rattle.book_laws.specs.Workers.{Worker, IsWork, AreJoined, acks_of, AllDone, IsExplained}
 use Rattle.book_laws.specs.Laws.{LawOfWorkers}
 use Rattle.book_laws.proofs.Lists.{all_flat, get_right}
 use Rattle.book_laws.proofs.Contents.{once_found}
@@ -53,7 +53,8 @@ use Rattle.book_laws.proofs.Uploads.{numbered_at, sent_at, columns_are}
 use Rattle.book_laws.proofs.Legal.{legal_at, legal_append, legal_once}
 use Rattle.book_laws.proofs.Growing as growing
 use Rattle.book_laws.proofs.Refusals as refusals
-use Rattle.book_laws.proofs.Places.{in_reverse, of_reverse, get_map, take_map, take_right, none_past, StoodThere, stood_there, records-append, records_front, columns_front}
+use Rattle.book_laws.proofs.Places.{in_reverse, of_reverse, get_map, take_map, take_right, none_past, StoodThere, stood_there}
+use Rattle.book_laws.proofs.Places.{records-append, records_front, columns_front}
 
 -- the worker of no host
 abbrev idle : Worker
@@ -169,7 +170,8 @@ module _ (w : Scenario) (first entries : List Entry) (fault : Option Entry) (v :
   next_legal : (more : List Entry) → first ++ more ≡ entries → (i : ℕ) (e : Entry) → slice_get more i ≡ Some e →
       IsLegalNext delivered w (records first ++ take i (records more)) e.stored
   next_legal more is i e h =
-      let there : slice_get entries (length first + i) ≡ Some e = ap (λ (es : List Entry). slice_get es (length first + i)) (sym is) ∙ get_right first more i ∙ h in
+      let there : slice_get entries (length first + i) ≡ Some e =
+      ap (λ (es : List Entry). slice_get es (length first + i)) (sym is) ∙ get_right first more i ∙ h in
       let o = owner (length first + i) e (omega arith) there in
       let call = (mine o.at o.low).pumps.added (length first + i) e (omega arith) o.stood.there o.number in
       let same : take (length first + i) (worker o.at).view.seen ≡ first ++ take i more =
@@ -279,7 +281,7 @@ module _ (w : Scenario) (first entries : List Entry) (fault : Option Entry) (v :
 
     -- ---- where every worker ended well
 
-    all_held : All (λ (p : Worker). IsOk p.result) ps → AllHeld w (records entries)
+    all_held : AllDone ps → AllHeld w (records entries)
     all_held ok =
         subst (All (IsHeld (content entries))) (columns_are w)
         (all_flat (IsHeld (content entries)) (λ (u : UploadData). u.columns) (uploads_of w)
@@ -295,10 +297,10 @@ module _ (w : Scenario) (first entries : List Entry) (fault : Option Entry) (v :
             let size = (mine h low).each in
             AllPass-from_list_all is_acknowledged (worker h).states did.0 q state.Refused (omega (arith, sent, size))
 
-    done : All (λ (p : Worker). IsOk p.result) ps → AllHeld w (records entries) × IsJoined w (records first) (records entries)
+    done : AllDone ps → AllHeld w (records entries) × IsJoined w (records first) (records entries)
     done ok = (all_held ok, (growing.law delivered w (records first) (records entries) entries_legal).joined (all_held ok))
 
-  sound : All (λ (p : Worker). IsOk p.result) ps → fault ≡ None
+  sound : AllDone ps → fault ≡ None
   sound ok = by fault refl
     where
       by : (f : Option Entry) → fault ≡ f → f ≡ None

@@ -1,5 +1,5 @@
 -- The laws of a run over a book.
-use Rattle.std.specs.Prelude.{◌≡◌, ℕ, ◌<◌, List, length, drop, All, Contains, Option, None, Err, IsOk, slice_index_or}
+use Rattle.std.specs.Prelude.{◌≡◌, ℕ, ◌<◌, List, length, drop, All, Contains, Option, None, Err, slice_index_or}
 use mathlib.Core.List.{IsPrefix}
 use Rattle.lg_model.specs.Placing.{Shape}
 use Rattle.lg_model.specs.Scenario.{Scenario}
@@ -25,7 +25,7 @@ use Rattle.book_laws.specs.Legal.{Order, IsLegal, uploads_at, upload_at}
 use Rattle.book_laws.specs.Leaving.{IsLeft, IsLeftByFiles}
 use Rattle.book_laws.specs.Keeping.{IsHeld, AllHeld, HasKeysOnce, IsJoined, IsCaused, AreAcked}
 use Rattle.book_laws.specs.Truth.{IsTrueFrom}
-use Rattle.book_laws.specs.Workers.{Worker, IsWork, AreJoined, acks_of, IsExplained}
+use Rattle.book_laws.specs.Workers.{Worker, IsWork, AreJoined, acks_of, AllDone, IsExplained}
 
 -- ---- legal lists
 
@@ -72,17 +72,17 @@ LawOfFilesLeft was now since = (order : Order) (w : Scenario) (before kept full 
 
 -- ---- one worker per host
 
--- What holds once all workers are done and the book is closed; where its journal is broken, one record more may be on the
--- disk. The list is legal, and stays so with that record. All columns of an acknowledged upload are kept; and of a host
--- whose link drops no reply, each upload of which a record was added is acknowledged. Where every worker ended well, all
--- that is brought is there, and the journal isn't broken. Where the book refused an upload, there is a cause for it. And
--- where all that is brought was found, nothing is added.
+-- What holds once all workers are done and the book is closed; where its journal is broken, one record more may be on
+-- the disk. The list is legal, and stays so with that record. All columns of an acknowledged upload are kept; and of a
+-- host whose link drops no reply, each upload of which a record was added is acknowledged. Where every worker came to
+-- its end, all that is brought is there, and the journal isn't broken. Where the book refused an upload, there is a
+-- cause for it. And where all that is brought was found, nothing is added.
 pub record HasWorked (w : Scenario) (first entries : List Entry) (fault : Option Entry) (ps : List Worker) : Type 0 where
   pub begins : IsPrefix first entries
   pub legal : IsLegal delivered w (records first) (records (with_fault entries fault))
   pub acks : AreAcked w (records first) (records entries) (acks_of ps)
-  pub done : All (λ (p : Worker). IsOk p.result) ps → AllHeld w (records entries) × IsJoined w (records first) (records entries)
-  pub sound : All (λ (p : Worker). IsOk p.result) ps → fault ≡ None
+  pub done : AllDone ps → AllHeld w (records entries) × IsJoined w (records first) (records entries)
+  pub sound : AllDone ps → fault ≡ None
   pub refused : IsWhole w → (h : ℕ) (d : Worker) (q : ℕ) (why : ApplyFault) → h < length ps
       → (slice_index_or ps h d).result ≡ Err (Refused q why) → IsExplained w (records first) fault why
   pub repeats : AllHeld w (records first) → (entries ≡ first) × (fault ≡ None)

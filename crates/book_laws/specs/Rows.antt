@@ -71,9 +71,11 @@ pub record WorkedBooks : Type 0 where
   pub four_before : before_first 0 (order_at delivered lossy 0) ≡ 1 ∷ 2 ∷ 2 ∷ 3 ∷ []
   -- after the record of the first of three uploads, the second is known, and of the third column 1 alone is stored
   pub known : decide late.shape ROOM (record_of 0 (left ∷ []) ∷ []) (record_of 1 (left ∷ [])) ≡ Ok []
-  pub one_more : decide late.shape ROOM (record_of 0 (left ∷ []) ∷ []) (record_of 2 (left ∷ right ∷ [])) ≡ Ok (right ∷ [])
+  pub one_more : decide late.shape ROOM (record_of 0 (left ∷ []) ∷ []) (record_of 2 (left ∷ right ∷ []))
+      ≡ Ok (right ∷ [])
   -- after the first run, the run with the larger packet is refused
-  pub refused : decide dearer.shape ROOM (record_of 0 (sole ∷ []) ∷ []) (record_of 0 (dear ∷ [])) ≡ Err (Conflict sole.key sole dear)
+  pub refused : decide dearer.shape ROOM (record_of 0 (sole ∷ []) ∷ []) (record_of 0 (dear ∷ []))
+      ≡ Err (Conflict sole.key sole dear)
   pub clash : IsClash dearer (record_of 0 (sole ∷ []) ∷ []) sole.key sole dear
   pub first_book : IsLegal delivered (first 20 first_again) [] (record_of 0 (sole ∷ []) ∷ [])
   pub nothing_new : IsLegal delivered (first 20 first_again)

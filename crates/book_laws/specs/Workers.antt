@@ -1,5 +1,6 @@
 -- A run with one worker per host: what each worker did, and what is known of it once the book is closed.
-use Rattle.std.specs.Prelude.{◌≡◌, ℕ, ◌+◌, List, [], length, map, replicate, reverse, slice_index_or, Option, Some, Result}
+use Rattle.std.specs.Prelude.{◌≡◌, ℕ, ◌+◌, List, [], length, map, replicate, reverse, All, slice_index_or, Option, Some}
+use Rattle.std.specs.Prelude.{Result, IsOk}
 use Rattle.lg_model.specs.Scenario.{Scenario}
 use Rattle.sketchlet_wire.specs.Uploads.{UploadData}
 use Rattle.column_book.specs.declared.book.TheConstants.{ROOM}
@@ -32,8 +33,8 @@ pub record IsWork (w : Scenario) (h : ℕ) (first : List Entry) (p : Worker) : T
   pub pumps : Pumps w.shape ROOM (uploads_at w h) (order_at delivered w h) (host_at w h).letters
       (new_pass (h + 2) doing.Idle first 0) p.view (replicate (length (uploads_at w h)) state.Idle) p.states p.result
 
--- The passes of all workers were joined into the first pass, host after host, the last one on top. The first pass itself
--- stored nothing and met no fault.
+-- The passes of all workers were joined into the first pass, host after host, the last one on top. The first pass
+-- itself stored nothing and met no fault.
 pub record AreJoined (first : List Entry) (v : View) (ps : List Worker) : Type 0 where
   pub number : v.number ≡ 1
   pub made : v.made ≡ length ps + 1
@@ -44,6 +45,10 @@ pub record AreJoined (first : List Entry) (v : View) (ps : List Worker) : Type 0
 -- Which uploads are acknowledged in the end; past the last host none is.
 abbrev pub acks_of : List Worker → Acks
 acks_of ps h q = acked_at (slice_index_or (map (λ (p : Worker). p.states) ps) h []) q
+
+-- Every worker came to its end: all its uploads are acknowledged.
+abbrev pub AllDone : List Worker → Type 0
+AllDone ps = All (λ (p : Worker). IsOk p.result) ps
 
 -- What it means that the book refused an upload of a worker: a conflict and a lack of room have their causes in the
 -- scenario and the list that was found, and else the journal is broken. The size of a column is never the cause.
