@@ -294,7 +294,7 @@ module _ (w : Scenario) (first entries : List Entry) (fault : Option Entry) (v :
         all_acked : (h q : ℕ) → h < length ps → q < length (uploads_at w h) → acked_at (worker h).states q ≡ true
         all_acked h q low sent =
             let did = on_ok (worker h).result _ (ok h idle low) (mine h low).pumps.done in
-            let size = (mine h low).each in
+            let size = (mine h low).paired in
             AllPass-from_list_all is_acknowledged (worker h).states did.0 q state.Refused (omega (arith, sent, size))
 
     done : AllDone ps → AllHeld w (records entries) × IsJoined w (records first) (records entries)

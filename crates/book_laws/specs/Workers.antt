@@ -27,9 +27,10 @@ pub record Worker : Type 0 where
   pub result : Result (Unit {0}) WorkFault
 
 -- What the worker of the host at position h did: it pumped the host's uploads over the host's link. Its pass was a new
--- one, of number h + 2, that had seen the entries of the opened book, and no upload had been sent.
+-- one, of number h + 2, that had seen the entries of the opened book, and no upload had been sent. Each upload has a
+-- state.
 pub record IsWork (w : Scenario) (h : ℕ) (first : List Entry) (p : Worker) : Type 0 where
-  pub each : length p.states ≡ length (uploads_at w h)
+  pub paired : length p.states ≡ length (uploads_at w h)
   pub pumps : Pumps w.shape ROOM (uploads_at w h) (order_at delivered w h) (host_at w h).letters
       (new_pass (h + 2) doing.Idle first 0) p.view (replicate (length (uploads_at w h)) state.Idle) p.states p.result
 
