@@ -71,7 +71,7 @@ outcome_of s = (s.uploader.states, s.result)
 
 -- The worker of a sender pumped its uploads, with a new pass of number n that had seen these entries.
 pub record IsWorkOf (shape : Shape) (room n : ℕ) (first : List Entry) (s : Sender) (p : Worker) : Type 0 where
-  pub each : length p.states ≡ length s.uploader.uploads
+  pub paired : length p.states ≡ length s.uploader.uploads
   pub pumps : Pumps shape room s.uploader.uploads (deliveries s.uploader.states s.letters.now) s.letters.now
       (new_pass n Idle first 0) p.view s.uploader.states p.states p.result
 

@@ -56,7 +56,7 @@ pub fn run_workers<'a, D: Disk + Send, G: Gate, R: Threads + Wait + Sync>(
     requires calls { All HasCallsFor senders.items }
     requires seats { HasSeats (length senders.items) seats }
     ensures goes_on { GoesOn D.honest D.seen D.images D.moment D.since D.faults book.first result.0 }
-    ensures worked { HaveWorked book.first.shape book.first.room book.first.entries senders.entry.items result.1.entry.items
+    ensures worked { HaveWorked book.first.shape book.first.room book.first.entries senders.entry.items result.1.items
         result.0.entries result.0.fault }
 {
     let mut first = first;
