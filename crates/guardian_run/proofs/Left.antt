@@ -12,7 +12,8 @@ use Rattle.book_file.specs.Between.{IsBetween}
 use Rattle.book_file.specs.File.{IsBlank, StandsFor}
 use Rattle.book_journal.specs.Opening.{OpenLeaves}
 use Rattle.book_journal.specs.Runs.{JournalState, IsRun, start_of, with_fault}
-use Rattle.book_laws.specs.Legal.{in_order, IsLegal}
+use Rattle.link_deliveries.specs.Deliveries.{delivered}
+use Rattle.book_laws.specs.Legal.{IsLegal}
 use Rattle.book_laws.specs.Leaving.{IsLeft}
 use Rattle.book_laws.specs.Laws.{LawOfStanding}
 
@@ -50,7 +51,7 @@ module _ {D : Type 0} (honest : D → Type 0) (seen : D → List ℕ) (images : 
         ends = (b.0 ++ m.0, sym (append_assoc (records old.entries) b.0 m.0) ∙ ap (λ (l : List UploadData). l ++ m.0) b.1 ∙ sym m.1);
       }
 
-  pub left : IsLegal in_order w (records old.entries) full → IsLeft (StandsFor w.shape) in_order w (records old.entries) (images start) (images new.disk)
+  pub left : IsLegal delivered w (records old.entries) full → IsLeft (StandsFor w.shape) delivered w (records old.entries) (images start) (images new.disk)
       (since new.disk (moment start)) (records new.entries) full
   left legal =
       let m = one_more new.entries new.fault in

@@ -3,8 +3,7 @@ pub mod OneOutcome
 pub mod EndLemmas
 pub mod GivingLemmas
 pub mod Listing
-pub mod Taking
-pub mod HostTurns
+pub mod Sent
 pub mod AckedLines
 pub mod Told
 pub mod Left

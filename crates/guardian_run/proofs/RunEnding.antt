@@ -28,7 +28,7 @@ use Rattle.book_journal.specs.Runs.{JournalState, IsRun, start_of, with_fault}
 use Rattle.run_laws.specs.Truth.{IsFrozenColumn, book_of}
 use Rattle.run_laws.proofs.Agreeing.{cells_at}
 use Rattle.run_laws.proofs.True.{true_run}
-use Rattle.book_laws.specs.Legal.{in_order}
+use Rattle.link_deliveries.specs.Deliveries.{delivered}
 use Rattle.book_laws.specs.Keeping.{Acks, IsClash}
 use Rattle.book_laws.specs.Laws.{LawOfStanding, LawOfTrueLists}
 use Rattle.book_laws.proofs.Contents.{of_if, some_found}
@@ -44,15 +44,17 @@ use Rattle.guardian_run.specs.Refusals.{status_of, fault_line, refusal_of, file_
 use Rattle.guardian_run.specs.Outcomes.{HasFault}
 use Rattle.guardian_run.specs.Ends.{Puts}
 use Rattle.guardian_run.specs.Ending.{EndsWith, EndsWithLine, EndsRefused}
-use Rattle.guardian_run.specs.Storing.{Keeps}
+use Rattle.shared_book.specs.Going.{GoesOn}
 use Rattle.guardian_run.specs.Running.{RunSays, StartSays, ReadSays, IsStart, HasUploaded, CanRun, RunsFrom, RunEnds}
 use Rattle.guardian_run.specs.Telling.{status_told, text_told, EndsTold, HasRun}
 use Rattle.guardian_run.proofs.EndLemmas.{said_by, said_is}
 use Rattle.guardian_run.proofs.OneOutcome.{no_fault}
-use Rattle.guardian_run.proofs.Taking.{rose_later}
 use Rattle.guardian_run.proofs.Left as leaving
 
 -- ---- a clash is with what was found
+
+rose_later : (a b c : ℕ) → a ≤ b → Rose b c → Rose a c
+rose_later a b c low rose = omega (arith, low, rose)
 
 module _ (w : Scenario) (whole : IsWhole w) where
   -- under the key of a brought column its own counters are found
@@ -165,8 +167,7 @@ module _ {D : Type 0} (honest : D → Type 0) (seen : D → List ℕ) (images : 
       (stands : honest start → StandsFor w.shape (records j0.entries) (seen start))
       (leaves : honest start → OpenLeaves honest seen images moment since w.shape start j0.disk) (was : honest j0.disk → honest start)
       (calm : faults_of start ≤ faults_of j0.disk)
-      (begun : honest j0.disk → IsRun honest seen images moment since (start_of seen moment j0) j0)
-      (keeps : Keeps honest seen images moment since faults_of j0 j1) where
+      (goes : GoesOn honest seen images moment since faults_of j0 j1) where
     abbrev rose : Type 0
     rose = Rose (faults_of start) (faults_of j1.disk)
 
@@ -174,7 +175,7 @@ module _ {D : Type 0} (honest : D → Type 0) (seen : D → List ℕ) (images : 
     rose_then = Rose (faults_of j0.disk) (faults_of j1.disk)
 
     run_is : honest start → IsRun honest seen images moment since (start_of seen moment j0) j1
-    run_is h = keeps.runs (start_of seen moment j0) (begun (leaves h).still)
+    run_is h = goes.runs (leaves h).still
 
     -- by what was told, at a status of it
     is_run : (s at : Status) (line : List ℕ) (ran : HasRun rose_then w j0 j1 at line) →
@@ -195,7 +196,7 @@ module _ {D : Type 0} (honest : D → Type 0) (seen : D → List ℕ) (images : 
       acks = ran.acks;
       says = says_later w (records j0.entries) (records j1.entries) (records (with_fault j1.entries j1.fault)) ran.acked rose_then rose
           (rose_later (faults_of start) (faults_of j0.disk) (faults_of j1.disk) calm) s line says;
-      truth = true_law in_order w (records j0.entries) whole;
+      truth = true_law delivered w (records j0.entries) whole;
     }
 
     run_end : (s : Status) (line : List ℕ) → HasUploaded honest seen images moment since rose w s line start j1.disk → Puts s sink line →
@@ -205,9 +206,9 @@ module _ {D : Type 0} (honest : D → Type 0) (seen : D → List ℕ) (images : 
       is = inr is;
       puts = puts;
       write = write;
-      still = λ h. keeps.still (leaves h).still;
-      was = λ h. was (keeps.was h);
-      never_falls = omega (arith, calm, keeps.never_falls);
+      still = λ h. goes.still (leaves h).still;
+      was = λ h. was (goes.was h);
+      never_falls = omega (arith, calm, goes.later);
     }
 
     -- at the status that is told

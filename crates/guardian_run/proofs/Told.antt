@@ -1,188 +1,187 @@
--- What the uploads of a run made of the journal, by how they ended.
-use Rattle.std.specs.Prelude.{◌≡◌, ◌⊎◌, ℕ, List, [], length, Option, None}
-use Rattle.std.proofs.Common.{refl, sym, ap, ◌∙◌, subst, inl, inr}
-use Rattle.std.proofs.lemmas.List.{append-nil}
+-- What the uploads of a run made of the journal, by what is told.
+use Rattle.std.specs.Prelude.{◌≡◌, ◌⊎◌, ℕ, zero, suc, ◌<◌, ◌≤◌, true, false, List, [], ◌∷◌, ◌++◌, length, map, All, Any, Option, None, Some, Result, Ok, Err, IsOk, slice_index_or, slice_get}
+use Rattle.std.specs.List.{flat_map}
+use Rattle.std.proofs.Common.{refl, sym, ap, ◌∙◌, subst, inl, inr, arith}
+use Rattle.std.proofs.lemmas.List.{append-nil, length-map, get_or-map, map-append}
+use mathlib.Core.List.{IsPrefix}
+use Rattle.lg_model.specs.declared.column.Key.{Key}
+use Rattle.lg_model.specs.Columns.{Column}
 use Rattle.lg_model.specs.Scenario.{Scenario}
-use Rattle.lg_model.specs.Placing.{Shape}
-use Rattle.column_book.specs.declared.book.TheConstants.{ROOM}
 use Rattle.column_book.specs.declared.entry.Entry.{Entry}
-use Rattle.column_book.specs.declared.fault.BookFault.{BookFault}
-use Rattle.column_book.specs.declared.fault.BookFault.TheVariants as book
-use Rattle.column_book.specs.Entries.{records, content}
-use Rattle.column_book.specs.Applying.{decide, stored_entry}
+use Rattle.column_book.specs.Entries.{records}
+use Rattle.sketchlet_wire.specs.Uploads.{UploadData}
 use Rattle.scenario_parts.specs.Whole.{IsWhole}
+use Rattle.uploader_core.specs.declared.state.SeqState.{SeqState}
+use Rattle.link_deliveries.specs.Deliveries.{delivered}
 use Rattle.book_journal.specs.declared.applied.ApplyFault.{ApplyFault}
 use Rattle.book_journal.specs.declared.applied.ApplyFault.TheVariants as faults
-use Rattle.book_journal.specs.Runs.{JournalState, with_fault}
-use Rattle.book_laws.specs.Legal.{in_order, IsLegal}
-use Rattle.book_laws.specs.Keeping.{Acks, HasKeysOnce, IsCaused, AreAcked}
-use Rattle.book_laws.specs.Turns.{uploads_in, among_first}
-use Rattle.book_laws.specs.Laws.{IsInTurn, LawOfTurns, LawOfCounts}
-use Rattle.report_text.specs.Faults.{no_memory_line}
-use Rattle.report_text.specs.Report.{report}
+use Rattle.book_journal.specs.Runs.{JournalState, IsRun, start_of, with_fault}
+use Rattle.upload_world.specs.declared.fault.WorkFault.{WorkFault}
+use Rattle.upload_world.specs.declared.fault.WorkFault.TheVariants.{Refused}
+use Rattle.upload_world.specs.Pumps.{acked_at}
+use Rattle.book_laws.specs.Legal.{IsLegal}
+use Rattle.book_laws.specs.Keeping.{Acks, AreAcked}
+use Rattle.book_laws.specs.Workers.{Worker, acks_of, AllDone, IsExplained}
+use Rattle.shared_book.specs.Going.{GoesOn}
+use Rattle.host_workers.specs.declared.sender.Sender.{Sender}
+use Rattle.host_workers.specs.Working.{outcome_of}
+use Rattle.report_text.specs.Faults.{no_memory_line, conflict_line, full_line, disk_fault_line}
 use Rattle.guardian_run.specs.declared.status.Status.{Status}
 use Rattle.guardian_run.specs.declared.status.Status.TheVariants as status
 use Rattle.guardian_run.specs.declared.telling.Told.{Told}
-use Rattle.guardian_run.specs.Storing.{turns_of, HasTaken, IsRefusedNext, IsStop, HasStopped, AreCounts, acks_of}
-use Rattle.guardian_run.specs.Running.{RunSays}
-use Rattle.guardian_run.specs.Telling.{status_told, text_told, CanBeTold, TellsStop, HasRun}
-use Rattle.guardian_run.proofs.Taking.{applied_front, taken_none, starved_after}
-use Rattle.guardian_run.proofs.AckedLines.{acked_counts}
+use Rattle.guardian_run.specs.declared.telling.Told.TheVariants as told
+use Rattle.guardian_run.specs.Sending.{acks_by, lines_of, IsFine, HasMet, CanBeMet, AllCanBeMet, HaveSent}
+use Rattle.guardian_run.specs.Running.{acked_lines, RunSays}
+use Rattle.guardian_run.specs.Telling.{status_told, text_told, Concludes, HasRun}
+use Rattle.guardian_run.proofs.Sent.{some_item}
+use Rattle.guardian_run.proofs.AckedLines.{lines_are}
 
 -- a journal that is whole has no entry beyond its own
 no_more : (es : List Entry) (fault : Option Entry) → fault ≡ None → records es ≡ records (with_fault es fault)
 no_more es fault whole = ap (λ (o : Option Entry). records (with_fault es o)) (sym whole)
 
--- what an end other than `Ok` says where nothing new was found
-never_ok : {P : Type 0} → (s at : Status) → (at ≡ status.Ok → ⊥) → s ≡ at → s ≡ status.Ok → P
-never_ok s at far is ok = absurd (far (sym is ∙ ok))
+records_begin : (xs ys : List Entry) → IsPrefix xs ys → IsPrefix (records xs) (records ys)
+records_begin xs ys p = (records p.0, sym (map-append (λ (e : Entry). e.stored) xs p.0) ∙ ap records p.1)
 
-module _ {D : Type 0} (w : Scenario) (old new : JournalState D) (shape : old.shape ≡ w.shape) (turns : LawOfTurns) (rose : Type 0) where
-  -- ---- all uploads were taken
+first_of : {X Y Z : Type 0} → (f : X → Y × Z) (xs : List X) → map (λ (p : Y × Z). p.0) (map f xs) ≡ map (λ (x : X). (f x).0) xs
+first_of f [] = refl
+first_of {X} {Y} f (x ∷ xs) = ap (λ (ys : List Y). (f x).0 ∷ ys) (first_of f xs)
 
-  pub run_done : (text : List ℕ) → HasTaken (turns_of w) old new → new.fault ≡ None → text ≡ report (content new.entries) w →
-      HasRun rose w old new status.Ok text
-  run_done text taken whole is =
-      let ts = turns_of w in
-      let t = turns.holds w old.entries ts new.entries [] (applied_front w ts [] old new shape (sym (append-nil ts)) taken) in
-      let all = no_more new.entries new.fault whole in
-      record {
-        acked = among_first w (length ts);
-        shape = taken.shape;
-        legal = subst (IsLegal in_order w (records old.entries)) all t.legal;
-        begins = (t.legal.more, sym t.legal.begins);
-        acks = t.acked;
-        says = (all, (t.done refl).1, is);
-        repeats = λ found at. (whole, t.repeats found);
-      }
+module _ {D : Type 0} (w : Scenario) (old new : JournalState D) (ss : List Sender) (shape : new.shape ≡ old.shape)
+    (sent : HaveSent w old.entries new.entries new.fault ss) (rose : Type 0) (cause : (e : Entry) → new.fault ≡ Some e → rose) where
+  abbrev told_by : Worker → List SeqState × Result (Unit {0}) WorkFault
+  told_by p = (p.states, p.result)
 
-  -- ---- one was not
+  states_are : map (λ (p : Worker). p.states) sent.workers ≡ map (λ (s : Sender). s.uploader.states) ss
+  states_are = sym (first_of told_by sent.workers) ∙ ap (map (λ (p : List SeqState × Result (Unit {0}) WorkFault). p.0)) sent.ended ∙ first_of outcome_of ss
 
-  module _ (n : ℕ) (f : ApplyFault) (stopped : HasStopped (turns_of w) n old new f) (cause : f ≡ faults.DiskFault → rose) where
-    in_turn : IsInTurn w old.entries stopped.front new.entries (uploads_in stopped.rest)
-    in_turn = turns.holds w old.entries stopped.front new.entries (uploads_in stopped.rest)
-        (applied_front w stopped.front stopped.rest old new shape stopped.split stopped.taken)
+  as_many : length sent.workers ≡ length ss
+  as_many = sym (length-map sent.workers told_by) ∙ ap length sent.ended ∙ length-map ss outcome_of
 
-    same_shape : new.shape ≡ w.shape
-    same_shape = stopped.taken.shape ∙ shape
+  acks : AreAcked w (records old.entries) (records new.entries) (acks_by ss)
+  acks = subst (λ (l : List (List SeqState)). AreAcked w (records old.entries) (records new.entries) (λ h q. acked_at (slice_index_or l h []) q)) states_are
+      sent.worked.acks
 
-    full_legal : (g : ApplyFault) → IsStop g stopped.rest new → IsLegal in_order w (records old.entries) (records (with_fault new.entries new.fault))
-    full_legal g stop = by g stop
-      where
-        plain : new.fault ≡ None → IsLegal in_order w (records old.entries) (records (with_fault new.entries new.fault))
-        plain whole = subst (IsLegal in_order w (records old.entries)) (no_more new.entries new.fault whole) in_turn.legal
+  result_is : (h : ℕ) (d : Worker) (s : Sender) → h < length ss → (slice_index_or sent.workers h d).result ≡ (slice_index_or ss h s).result
+  result_is h d s low =
+      let e = outcome_of s in
+      ap (λ (p : List SeqState × Result (Unit {0}) WorkFault). p.1)
+      (sym (get_or-map told_by sent.workers h d e (omega (arith, low, as_many)))
+      ∙ ap (λ (l : List (List SeqState × Result (Unit {0}) WorkFault)). slice_index_or l h e) sent.ended ∙ get_or-map outcome_of ss h s e low)
 
-        by : (g : ApplyFault) → IsStop g stopped.rest new → IsLegal in_order w (records old.entries) (records (with_fault new.entries new.fault))
-        by (faults.WrongShape kept came) r = plain r.whole
-        by (faults.Conflict key kept came) r = plain r.whole
-        by (faults.Full held more) r = plain r.whole
-        by faults.Memory whole = plain whole
-        by faults.DiskFault r =
-            let e = stored_entry r.next.0 new.entries r.next.1 in
-            let decides = ap (λ (s : Shape). decide s ROOM (records new.entries) r.next.1) (sym same_shape) ∙ r.decides in
-            subst (λ (o : Option Entry). IsLegal in_order w (records old.entries) (records (with_fault new.entries o))) (sym r.broken)
-            (in_turn.next r.next.0 r.next.1 (uploads_in r.more) (ap uploads_in r.split) decides r.some)
-        by (faults.Broken k) r = absurd r
+  all_done : All IsFine ss → AllDone sent.workers
+  all_done fine = λ h d low.
+      let here : h < length ss = omega (arith, low, as_many) in
+      let s = some_item ss h here in
+      is_ok (slice_index_or sent.workers h d).result (result_is h d s here ∙ fine h s here)
+    where
+      is_ok : (r : Result (Unit {0}) WorkFault) → r ≡ Ok tt → IsOk r
+      is_ok (Ok x) is = tt
+      is_ok (Err f) is = absurd (cc is)
 
-    whole_or_rose : (g : ApplyFault) → f ≡ g → IsStop g stopped.rest new → (records new.entries ≡ records (with_fault new.entries new.fault)) ⊎ rose
-    whole_or_rose (faults.WrongShape kept came) is r = inl (no_more new.entries new.fault r.whole)
-    whole_or_rose (faults.Conflict key kept came) is r = inl (no_more new.entries new.fault r.whole)
-    whole_or_rose (faults.Full held more) is r = inl (no_more new.entries new.fault r.whole)
-    whole_or_rose faults.Memory is whole = inl (no_more new.entries new.fault whole)
-    whole_or_rose faults.DiskFault is r = inr (cause is)
-    whole_or_rose (faults.Broken k) is r = absurd r
+  explained : IsWhole w → (q : ℕ) (fault : ApplyFault) → Any (HasMet (Refused q fault)) ss → IsExplained w (records old.entries) new.fault fault
+  explained fits q fault any =
+      let low = any.2 in
+      let here : any.0 < length sent.workers = omega (arith, low, as_many) in
+      let d = some_item sent.workers any.0 here in
+      sent.worked.refused fits any.0 d q fault here
+      (result_is any.0 d any.1 low ∙ ap (λ (s : Sender). s.result) any.3 ∙ any.4)
 
-    -- whatever is told of it
-    ended : (s : Status) (text : List ℕ) (acked : Acks) → AreAcked w (records old.entries) (records new.entries) acked → (s ≡ status.Ok → ⊥) →
-        RunSays w (records old.entries) (records new.entries) (records (with_fault new.entries new.fault)) acked rose s text → HasRun rose w old new s text
-    ended s text acked acks far says = record {
-      acked = acked;
-      shape = stopped.taken.shape;
-      legal = full_legal f stopped.stop;
-      begins = (in_turn.legal.more, sym in_turn.legal.begins);
-      acks = acks;
-      says = says;
-      repeats = λ found at. absurd (far at);
-    }
+  pub met : IsWhole w → AllCanBeMet new.fault ss
+  met fits q fault any = by fault (explained fits q fault any)
+    where
+      by : (f : ApplyFault) → IsExplained w (records old.entries) new.fault f → CanBeMet new.fault f
+      by (faults.Conflict key kept came) is = tt
+      by (faults.Full held more) is = tt
+      by faults.DiskFault is = is
+      by (faults.Broken n) is = is
+      by (faults.WrongShape kept came) is = is
+      by faults.Memory is = is
 
-    pub run_starved : HasRun rose w old new status.NoMemory no_memory_line
-    run_starved = ended status.NoMemory no_memory_line (among_first w (length stopped.front)) in_turn.acked (λ e. cc) (whole_or_rose f refl stopped.stop, refl)
+  -- whatever is told
+  ended : (s : Status) (text : List ℕ) → RunSays w (records old.entries) (records new.entries) (records (with_fault new.entries new.fault)) (acks_by ss) rose s text →
+      HasRun rose w old new s text
+  ended s text says = record {
+    acked = acks_by ss;
+    shape = shape;
+    legal = sent.worked.legal;
+    begins = records_begin old.entries new.entries sent.worked.begins;
+    acks = acks;
+    says = says;
+    repeats = λ found at. let r = sent.worked.repeats found in (r.1, r.0);
+  }
 
-    -- why it was not
-    caused : IsWhole w → HasKeysOnce (records old.entries) → (x : BookFault) → IsRefusedNext stopped.rest new x → IsCaused w (records old.entries) x
-    caused fits once x r =
-        in_turn.refused fits once r.next.1 (uploads_in r.more) x (ap uploads_in r.split)
-        (ap (λ (s : Shape). decide s ROOM (records new.entries) r.next.1) (sym same_shape) ∙ r.refused)
+  whole_or_rose : (o : Option Entry) → new.fault ≡ o → (records new.entries ≡ records (with_fault new.entries new.fault)) ⊎ rose
+  whole_or_rose None is = inl (no_more new.entries new.fault is)
+  whole_or_rose (Some e) is = inr (cause e is)
 
-    pub can_be_told : IsWhole w → HasKeysOnce (records old.entries) → CanBeTold f
-    can_be_told fits once = by f stopped.stop
-      where
-        by : (g : ApplyFault) → IsStop g stopped.rest new → CanBeTold g
-        by (faults.WrongShape kept came) r = caused fits once (book.WrongShape kept came) r
-        by (faults.Conflict key kept came) r = tt
-        by (faults.Full held more) r = tt
-        by faults.DiskFault r = tt
-        by faults.Memory r = tt
-        by (faults.Broken k) r = r
+  pub starved : HasRun rose w old new status.NoMemory no_memory_line
+  starved = ended status.NoMemory no_memory_line (whole_or_rose new.fault refl, refl)
 
-    pub run_stopped : IsWhole w → HasKeysOnce (records old.entries) → LawOfCounts → (counts : List ℕ) → AreCounts w counts n → (t : Told) →
-        TellsStop w (acks_of counts) f t → HasRun rose w old new (status_told t) (text_told t)
-    run_stopped fits once law counts are t tells = by f refl stopped.stop tells
-      where
-        acks : AreAcked w (records old.entries) (records new.entries) (acks_of counts)
-        acks = acked_counts w counts n (records old.entries) (records new.entries) law are
-            (subst (λ m. AreAcked w (records old.entries) (records new.entries) (among_first w m)) stopped.count in_turn.acked)
+  lines : (line : List ℕ) → flat_map lines_of ss ++ line ≡ acked_lines w (acks_by ss) ++ line
+  lines line = ap (λ (xs : List ℕ). xs ++ line) (lines_are w old.entries new.entries new.fault ss sent)
 
-        at : (s : Status) (text : List ℕ) → status_told t ≡ s → (s ≡ status.Ok → ⊥) →
-            RunSays w (records old.entries) (records new.entries) (records (with_fault new.entries new.fault)) (acks_of counts) rose s (text_told t) →
-            HasRun rose w old new (status_told t) (text_told t)
-        at s text is far says = subst (λ x. HasRun rose w old new x (text_told t)) (sym is) (ended s (text_told t) (acks_of counts) acks far says)
+  pub concluded : IsWhole w → (t : Told) → Concludes w new ss t → HasRun rose w old new (status_told t) (text_told t)
+  concluded fits (told.Report text) is =
+      ended status.Ok text.items (no_more new.entries new.fault is.0, (sent.worked.done (all_done is.1)).1, is.2)
+  concluded fits (told.Conflict text) is = ended status.Conflict text.items (
+    no_more new.entries new.fault is.0,
+    record {
+      key = is.2;
+      kept = is.3;
+      came = is.4;
+      clash = explained fits is.1 (faults.Conflict is.2 is.3 is.4) is.5;
+      is = is.6 ∙ lines (conflict_line is.2 is.3 is.4);
+    },
+  )
+  concluded fits (told.Full text) is =
+      let c = explained fits is.1 (faults.Full is.2 is.3) is.4 in
+      ended status.Full text.items (
+        no_more new.entries new.fault is.0,
+        record {
+          held = is.2;
+          more = is.3;
+          overfull = c.0;
+          no_room = c.1;
+          is = is.5 ∙ lines (full_line is.2 is.3);
+        },
+      )
+  concluded fits (told.DiskFault text) is = ended status.DiskFault text.items (cause is.0.0 is.0.1, is.1 ∙ lines disk_fault_line)
 
-        by : (g : ApplyFault) → f ≡ g → IsStop g stopped.rest new → TellsStop w (acks_of counts) g t → HasRun rose w old new (status_told t) (text_told t)
-        by (faults.Conflict key kept came) is r told =
-            at status.Conflict (text_told t) told.0 (λ e. cc) (
-              no_more new.entries new.fault r.whole,
-              record {
-                key = key;
-                kept = kept;
-                came = came;
-                clash = caused fits once (book.Conflict key kept came) r;
-                is = told.1;
-              },
-            )
-        by (faults.Full held more) is r told =
-            let c = caused fits once (book.Full held more) r in
-            at status.Full (text_told t) told.0 (λ e. cc) (
-              no_more new.entries new.fault r.whole,
-              record {
-                held = held;
-                more = more;
-                overfull = c.0;
-                no_room = c.1;
-                is = told.1;
-              },
-            )
-        by faults.DiskFault is r told = at status.DiskFault (text_told t) told.0 (λ e. cc) (cause is, told.1)
-        by faults.Memory is r told = absurd told
-        by (faults.WrongShape kept came) is r told = absurd told
-        by (faults.Broken k) is r told = absurd told
+-- ---- memory ran out before the first upload
 
--- memory ran out before the first upload
-pub run_unbegun : {D : Type 0} → (w : Scenario) (j : JournalState D) → j.shape ≡ w.shape → LawOfTurns → (rose : Type 0) → j.fault ≡ None →
-    HasRun rose w j j status.NoMemory no_memory_line
-run_unbegun w j shape turns rose whole =
-    run_starved w j j shape turns rose 0 faults.Memory (starved_after [] (turns_of w) 0 j j (taken_none j) whole refl) (λ e. absurd (cc e))
+past_end : {X : Type 0} → (xs : List X) (i : ℕ) (x : X) → length xs ≤ i → slice_get xs i ≡ Some x → ⊥
+past_end [] i x far is = absurd (cc is)
+past_end (y ∷ xs) zero x far is = absurd (omega (arith, far))
+past_end (y ∷ xs) (suc i) x far is = past_end xs i x (omega (arith, far)) is
 
--- and after the last
-pub run_untold : {D : Type 0} → (w : Scenario) (old new : JournalState D) → old.shape ≡ w.shape → LawOfTurns → (rose : Type 0) → HasTaken (turns_of w) old new →
-    new.fault ≡ None → HasRun rose w old new status.NoMemory no_memory_line
-run_untold w old new shape turns rose taken whole =
-    let ts = turns_of w in
-    run_starved w old new shape turns rose (length ts) faults.Memory (record {
-      front = ts;
-      rest = [];
-      split = sym (append-nil ts);
-      count = refl;
-      taken = taken;
-      stop = whole;
-    }) (λ e. absurd (cc e))
+pub unbegun : {D : Type 0} → (w : Scenario) (j : JournalState D) (rose : Type 0) → j.fault ≡ None → HasRun rose w j j status.NoMemory no_memory_line
+unbegun w j rose whole = record {
+  acked = λ h q. false;
+  shape = refl;
+  legal = record {
+    more = [];
+    begins = sym (no_more j.entries j.fault whole) ∙ sym (append-nil (records j.entries));
+    each = tt;
+  };
+  begins = ([], append-nil (records j.entries));
+  acks = record {
+    held = λ h q declared low is. absurd (cc is);
+    answered = λ i r far there. absurd (past_end (records j.entries) i r far there);
+  };
+  says = (inl (no_more j.entries j.fault whole), refl);
+  repeats = λ found at. absurd (cc at);
+}
+
+pub goes_nowhere : {D : Type 0} → (honest : D → Type 0) (seen : D → List ℕ) (images : D → List ℕ → Type 0) (moment : D → ℕ) (since : D → ℕ → List ℕ → Type 0)
+    (faults_of : D → ℕ) (j : JournalState D) → j.fault ≡ None → (honest j.disk → IsRun honest seen images moment since (start_of seen moment j) j) →
+    GoesOn honest seen images moment since faults_of j j
+goes_nowhere honest seen images moment since faults_of j whole runs = record {
+  shape = refl;
+  room = refl;
+  still = λ h. h;
+  was = λ h. h;
+  later = omega arith;
+  rose = λ e is. absurd (cc (sym whole ∙ is));
+  runs = runs;
+}

@@ -7,6 +7,6 @@ pub mod Giving
 pub mod Ends
 pub mod Ending
 pub mod Looking
-pub mod Storing
+pub mod Sending
 pub mod Running
 pub mod Telling

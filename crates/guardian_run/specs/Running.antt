@@ -18,7 +18,8 @@ use Rattle.book_file.specs.Found.{count_of}
 use Rattle.book_journal.specs.Crashes.{OnlyReads}
 use Rattle.book_journal.specs.Opening.{OpenLeaves}
 use Rattle.run_laws.specs.Truth.{book_of}
-use Rattle.book_laws.specs.Legal.{in_order, uploads_at}
+use Rattle.link_deliveries.specs.Deliveries.{delivered}
+use Rattle.book_laws.specs.Legal.{uploads_at}
 use Rattle.book_laws.specs.Leaving.{IsLeft}
 use Rattle.book_laws.specs.Keeping.{Acks, AllHeld, AreAcked, IsJoined, IsClash, IsOverfull}
 use Rattle.book_laws.specs.Truth.{IsTrueFrom}
@@ -131,12 +132,12 @@ pub record HasUploaded {D : Type 0} (honest : D → Type 0) (seen : D → List �
   pub acked : Acks
   pub stood : honest old → StandsFor w.shape before (seen old)
   pub left : honest old →
-      IsLeft (StandsFor w.shape) in_order w before (images old) (images new) (since new (moment old)) kept full
+      IsLeft (StandsFor w.shape) delivered w before (images old) (images new) (since new (moment old)) kept full
   pub read : honest old → StandsFor w.shape kept (seen new) ⊎ StandsFor w.shape full (seen new)
   pub repeats : honest old → (IsBlank (seen old) → ⊥) → AllHeld w before → s ≡ status.Ok → seen new ≡ seen old
   pub acks : AreAcked w before kept acked
   pub says : RunSays w before kept full acked rose s text
-  pub truth : IsTrueFrom in_order w before
+  pub truth : IsTrueFrom delivered w before
 
 -- ---- all of it
 

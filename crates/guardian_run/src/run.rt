@@ -12,17 +12,21 @@ use crate::telling::tell;
 use book_journal::Journal;
 use book_laws::{files_stand_for_one_list, lists_are_true};
 use column_book::ROOM;
-use lg_base::{Sink, Source};
+use lg_base::{Gate, Sink, Source};
 use lg_disk::Disk;
 use scenario_text::{Scenario, read};
 use std::alloc::Global;
+use std::sync::Wait;
+use std::thread::Threads;
 
 // Runs a scenario over the book of a disk, which is handed back, and writes what there is to tell.
-fn run_over<K: Sink, D: Disk>(
+fn run_over<K: Sink, D: Disk + Send, G: Gate, R: Threads + Wait + Sync>(
     alloc: Global,
+    rt: &R,
     scenario: &Scenario,
     sink: &mut K,
     disk: D,
+    gate: &G,
 ) -> (Status, D)
     ensures ends { RunsFrom D.honest D.seen D.images D.moment D.since D.faults scenario.now
         (change K.written K.faults sink.old sink.new) disk result.1 result.0 }
@@ -30,33 +34,36 @@ fn run_over<K: Sink, D: Disk>(
 {
     lists_are_true();
     files_stand_for_one_list();
-    let mut journal = match Journal::open(alloc, disk, &scenario.shape(), ROOM) {
+    let journal = match Journal::open(alloc, disk, &scenario.shape(), ROOM) {
         Ok(journal) => journal,
         Err((fault, disk)) => return (end(alloc, Err(Refusal::from(fault)), sink), disk),
     };
-    let told = tell(alloc, scenario, &mut journal);
+    let (told, journal) = tell(alloc, rt, scenario, journal, gate);
     let (_, disk) = journal.close();
     (end_run(told, sink), disk)
 }
 
-/// Reads a scenario from the source, opens the book of the disk's file with its shape, runs its network, applies the uploads
-/// of what came to the hosts, and writes the report on the book into the sink. The disk is handed back at every end.
+/// Reads a scenario from the source, opens the book of the disk's file with its shape, runs its network, sends what came to
+/// each host over the host's link, by a worker for each host, and writes the report on the book into the sink. The disk is
+/// handed back at every end.
 ///
-/// `BadScenario` where the input is no scenario text; then the faults of the file in their order; then `Conflict` and `Full`
-/// by the first upload that the book does not take, `DiskFault` where the disk failed, each after the lines of the uploads
-/// that were acknowledged. `ReadFault`, `WriteFault` and `DiskFault` come only where that count of faults rose in this call
+/// `BadScenario` where the input is no scenario text; then the faults of the file in their order; then `DiskFault` where the
+/// disk failed, else `Conflict` or `Full` by the upload that was refused of the first host of which one was, each after the
+/// lines of the uploads that were acknowledged. `ReadFault`, `WriteFault` and `DiskFault` come only where that count of faults rose in this call
 /// or stands at its last value, `NoMemory` where no memory was found. What was booked before a refusal stays.
-pub fn run<S: Source, K: Sink, D: Disk>(
+pub fn run<S: Source, K: Sink, D: Disk + Send, G: Gate, R: Threads + Wait + Sync>(
     alloc: Global,
+    rt: &R,
     source: &mut S,
     sink: &mut K,
     disk: D,
+    gate: &G,
 ) -> (Status, D)
     ensures { RunEnds D.honest D.seen D.images D.moment D.since D.faults (change S.left S.faults source.old source.new)
         (change K.written K.faults sink.old sink.new) disk result.1 result.0 }
 {
     match read(alloc, source) {
-        Ok(scenario) => run_over(alloc, &scenario, sink, disk),
+        Ok(scenario) => run_over(alloc, rt, &scenario, sink, disk, gate),
         Err(fault) => (end(alloc, Err(Refusal::from(fault)), sink), disk),
     }
 }

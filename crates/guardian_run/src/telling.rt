@@ -1,33 +1,35 @@
-//! What a run tells: the report on the journal's book, or which uploads were taken before one was refused.
-ghost use Rattle.std.specs.Prelude.{◌≡◌, ◌<◌, ◌++◌, ℕ, length, None, IfOk, IfErr};
-ghost use Rattle.std.specs.List.{flat_map, range_with_len};
+//! What a run tells: the report on the journal's book, or which uploads were acknowledged before one was refused.
+ghost use Rattle.std.specs.Prelude.{◌≡◌, ◌++◌, ◌<◌, List, All, Any, None, Some, IfOk, IfErr, MatchResult};
+ghost use Rattle.std.specs.List.{flat_map};
 ghost use Rattle.lg_base.specs.Causes.{Rose};
 ghost use Rattle.scenario_parts.specs.Whole.{IsWhole};
 ghost use Rattle.column_book.specs.declared.book.TheConstants.{ROOM};
 ghost use Rattle.column_book.specs.Entries.{records};
 ghost use Rattle.book_laws.specs.Keeping.{HasKeysOnce};
-ghost use Rattle.report_text.specs.Columns as lines;
+ghost use Rattle.book_journal.specs.Runs.{IsRun, start_of};
 ghost use Rattle.report_text.specs.Faults.{no_memory_line};
+ghost use Rattle.shared_book.specs.Going.{GoesOn};
 ghost use Rattle.guardian_run.specs.declared.status.Status.TheVariants.{NoMemory};
-ghost use Rattle.guardian_run.specs.Storing.{Keeps, AreCounts, counts_of, acks_of};
-ghost use Rattle.guardian_run.specs.Running.{acked_lines};
-ghost use Rattle.guardian_run.specs.Telling.{status_told, text_told, CanBeTold, TellsStop, HasRun};
+ghost use Rattle.guardian_run.specs.Sending.{lines_of, lines_with, IsFine, HasMet, AllCanBeMet};
+ghost use Rattle.guardian_run.specs.Telling.{status_told, text_told, CanBeTold, Concludes, TellsStop, HasRun};
 
 use crate::reporting::report;
-use crate::storing::{Progress, store_all};
+use crate::storing::store_all;
 use book_journal::{ApplyFault, Journal};
-use book_laws::turns_are_legal;
-use lg_base::Memory;
+use host_workers::Sender;
+use lg_base::{Gate, Memory};
 use lg_disk::Disk;
-use path_sim::run_own;
 use report_text::{disk_fault_line, put_acked_line, put_conflict_line, put_full_line, put_text};
 use scenario_text::Scenario;
 use std::alloc::Global;
+use std::sync::Wait;
+use std::thread::Threads;
+use upload_world::{Uploader, WorkFault};
 
 /// What a run tells of its uploads: its bytes, by how they ended.
 #[derive(Debug, Drop)]
 pub(crate) enum Told {
-    /// All were taken: the report.
+    /// All were acknowledged: the report.
     Report(Vec<u8>),
     /// The book has a column of one's key with other counters.
     Conflict(Vec<u8>),
@@ -37,48 +39,41 @@ pub(crate) enum Told {
     DiskFault(Vec<u8>),
 }
 
-// The lines of the first uploads of a host.
-fn put_acked(text: &mut Vec<u8>, host: u16, count: u32) -> Result<(), Memory>
-    ensures { IfOk result (λ _. text.new.items ≡ text.old.items ++ flat_map (lines.acked_line host) (range_with_len 0 count)) }
+// The lines of the acknowledged uploads of a host.
+fn put_acked(text: &mut Vec<u8>, uploader: &Uploader) -> Result<(), Memory>
+    ensures { IfOk result (λ _. text.new.items ≡ text.old.items ++ lines_with uploader.now) }
 {
-    for seq in 0..count {
-        put_acked_line(text, host, seq)?;
+    let host = uploader.host();
+    for seq in 0..uploader.len() {
+        if uploader.acked(seq) {
+            put_acked_line(text, host, seq)?;
+        }
     }
     Ok(())
 }
 
-// The lines of the uploads that were taken.
-fn acked_text(alloc: Global, scenario: &Scenario, progress: &Progress) -> Result<Vec<u8>, Memory>
-    requires low { length progress.now.full.items < length scenario.now.hosts }
-    requires counts { (n : ℕ) × AreCounts scenario.now (counts_of progress.now) n }
-    ensures { IfOk result (λ text. text.items ≡ acked_lines scenario.now (acks_of (counts_of progress.now))) }
+// Those of all hosts.
+fn acked_text(alloc: Global, senders: &[Sender<'_>]) -> Result<Vec<u8>, Memory>
+    ensures { IfOk result (λ text. text.items ≡ flat_map lines_of senders.now) }
 {
     let mut text = Vec::new(alloc);
-    let hosts = scenario.hosts();
-    let full = progress.full.as_slice();
-    let last = full.len();
-    for at in 0..last {
-        let host = &hosts[at];
-        put_acked(&mut text, host.name, full[at])?;
+    for sender in senders {
+        put_acked(&mut text, &sender.uploader)?;
     }
-    let host = &hosts[last];
-    put_acked(&mut text, host.name, progress.taken)?;
     Ok(text)
 }
 
-// What is told where an upload was not taken: the lines of those that were, and the line of the fault. Memory where there
-// is none for them.
+// What is told where an upload was refused: the lines of those that were acknowledged, and the line of the fault. Memory
+// where there is none for them.
 fn stopped(
     alloc: Global,
-    scenario: &Scenario,
-    progress: &Progress,
+    senders: &[Sender<'_>],
     fault: ApplyFault,
 ) -> Result<Told, Memory>
-    requires counts { (n : ℕ) × AreCounts scenario.now (counts_of progress.now) n }
     requires told { CanBeTold fault }
-    ensures { IfOk result (TellsStop scenario.now (acks_of (counts_of progress.now)) fault) }
+    ensures { IfOk result (TellsStop (flat_map lines_of senders.now) fault) }
 {
-    let mut text = acked_text(alloc, scenario, progress)?;
+    let mut text = acked_text(alloc, senders)?;
     match fault {
         ApplyFault::Conflict { key, kept, came } => {
             put_conflict_line(&mut text, &key, &kept, &came)?;
@@ -98,36 +93,71 @@ fn stopped(
     }
 }
 
-/// Runs the network of a scenario, applies the uploads of what came to the hosts to a journal that was just opened with the
-/// scenario's shape, and gives what is told. Memory where there is none for the network, the uploads or the lines: then
-/// nothing is told, and the uploads that were applied stay.
-pub(crate) fn tell<D: Disk>(
+// How the work of all hosts ended: well, or with the first fault in the order of the hosts.
+fn first_fault(senders: &[Sender<'_>]) -> Result<(), WorkFault>
+    ensures { MatchResult result (λ _. All IsFine senders.now) (λ fault. Any (HasMet fault) senders.now) }
+{
+    for sender in senders {
+        if let Err(fault) = sender.result {
+            return Err(fault);
+        }
+    }
+    Ok(())
+}
+
+// What is told once the book is closed: that the disk failed, where it did; else the first fault in the order of the hosts;
+// else the report. Memory where a worker met want of it, or there is none for what is told.
+fn conclude<D: Disk>(
     alloc: Global,
     scenario: &Scenario,
-    journal: &mut Journal<D>,
+    journal: &Journal<D>,
+    senders: &[Sender<'_>],
 ) -> Result<Told, Memory>
-    requires fits { IsWhole scenario.now }
-    requires shape { journal.old.shape ≡ scenario.now.shape }
-    requires room { journal.old.room ≡ ROOM }
-    requires whole { journal.old.fault ≡ None }
-    requires once { HasKeysOnce (records journal.old.entries) }
-    ensures told { IfOk result (λ told. HasRun (Rose (D.faults journal.old.disk) (D.faults journal.new.disk)) scenario.now
-        journal.old journal.new (status_told told) (text_told told)) }
-    ensures starved { IfErr result (λ _. HasRun (Rose (D.faults journal.old.disk) (D.faults journal.new.disk)) scenario.now
-        journal.old journal.new NoMemory no_memory_line) }
-    ensures keeps { Keeps D.honest D.seen D.images D.moment D.since D.faults journal.old journal.new }
+    requires shape { journal.now.shape ≡ scenario.now.shape }
+    requires met { AllCanBeMet journal.now.fault senders.now }
+    ensures { IfOk result (Concludes scenario.now journal.now senders.now) }
 {
-    turns_are_legal();
-    let arrivals = run_own(alloc, scenario)?;
-    let mut progress = Progress {
-        full: Vec::new(alloc),
-        taken: 0,
-    };
-    match store_all(alloc, scenario, &arrivals, journal, &mut progress) {
+    if journal.is_broken() {
+        return stopped(alloc, senders, ApplyFault::DiskFault);
+    }
+    match first_fault(senders) {
         Ok(()) => {
             let text = report(alloc, scenario, journal.book())?;
             Ok(Told::Report(text))
         }
-        Err(fault) => stopped(alloc, scenario, &progress, fault),
+        Err(WorkFault::Refused { seq: _, fault }) => stopped(alloc, senders, fault),
+        Err(WorkFault::Memory) => Err(Memory),
+    }
+}
+
+/// Runs the network of a scenario, sends what came to its hosts to a journal that was just opened with the scenario's
+/// shape, and gives what is told, with the journal as it was closed. Memory where there is none for the network, the
+/// uploads or the lines: then nothing is told, and the uploads that were stored stay.
+pub(crate) fn tell<D: Disk + Send, G: Gate, R: Threads + Wait + Sync>(
+    alloc: Global,
+    rt: &R,
+    scenario: &Scenario,
+    journal: Journal<D>,
+    gate: &G,
+) -> (Result<Told, Memory>, Journal<D>)
+    requires fits { IsWhole scenario.now }
+    requires shape { journal.shape ≡ scenario.now.shape }
+    requires room { journal.room ≡ ROOM }
+    requires whole { journal.fault ≡ None }
+    requires once { HasKeysOnce (records journal.entries) }
+    requires runs { D.honest journal.disk →
+        IsRun D.honest D.seen D.images D.moment D.since (start_of D.seen D.moment journal) journal }
+    ensures told { IfOk result.0 (λ told. HasRun (Rose (D.faults journal.disk) (D.faults result.1.disk)) scenario.now
+        journal result.1 (status_told told) (text_told told)) }
+    ensures starved { IfErr result.0 (λ _. HasRun (Rose (D.faults journal.disk) (D.faults result.1.disk)) scenario.now
+        journal result.1 NoMemory no_memory_line) }
+    ensures goes_on { GoesOn D.honest D.seen D.images D.moment D.since D.faults journal result.1 }
+{
+    match store_all(alloc, rt, scenario, journal, gate) {
+        Ok((journal, senders)) => {
+            let told = conclude(alloc, scenario, &journal, &senders);
+            (told, journal)
+        }
+        Err(journal) => (Err(Memory), journal),
     }
 }

@@ -18,9 +18,11 @@ use crate::refusal::Refusal;
 use crate::run::run;
 use crate::status::Status;
 use guardian_words::{Command, command};
-use lg_base::{Sink, Source};
+use lg_base::{Gate, Sink, Source};
 use lg_disk::Disk;
 use std::alloc::Global;
+use std::sync::Wait;
+use std::thread::Threads;
 
 /// The law of outcomes: what the words, the input and the book's file come to is one output, or one refusal
 /// (docs/DEFINITIONS.md, Ends).
@@ -89,12 +91,14 @@ fn is_run(command: Option<Command>) -> bool
 ///
 /// All commands but `run` only read the disk. What a run leaves is legal at every moment, a crash included; each acknowledged
 /// upload is in every file that a crash may leave now; and where all that is brought was there, the file stays as it was.
-pub fn guardian<S: Source, K: Sink, D: Disk>(
+pub fn guardian<S: Source, K: Sink, D: Disk + Send, G: Gate, R: Threads + Wait + Sync>(
     alloc: Global,
+    rt: &R,
     words: &[String],
     source: &mut S,
     sink: &mut K,
     mut disk: D,
+    gate: &G,
 ) -> (Status, D)
     ensures runs { asked words.now ≡ Some Run → RunEnds D.honest D.seen D.images D.moment D.since D.faults
         (change S.left S.faults source.old source.new) (change K.written K.faults sink.old sink.new) disk result.1 result.0 }
@@ -103,7 +107,7 @@ pub fn guardian<S: Source, K: Sink, D: Disk>(
     ensures reads { asked words.now ≢ Some Run → OnlyReads D.honest D.seen D.images D.moment D.since disk result.1 }
 {
     if is_run(command(words)) {
-        return run(alloc, source, sink, disk);
+        return run(alloc, rt, source, sink, disk, gate);
     }
     let status = guardian_read(alloc, words, source, sink, &mut disk);
     (status, disk)
