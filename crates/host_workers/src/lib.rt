@@ -18,3 +18,6 @@ mod working;
 
 pub use running::{Seats, room_for, run_workers};
 pub use sender::Sender;
+
+#[cfg(test)]
+mod tests;
