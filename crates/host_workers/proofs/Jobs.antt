@@ -1,6 +1,6 @@
 -- The workers of a run, from their jobs.
 use Rattle.std.specs.Prelude.{◌≡◌, ◌≢◌, ℕ, zero, suc, ◌+◌, ◌<◌, List, [], ◌∷◌, ◌++◌, length, map, reverse, All, slice_index_or, Option, Result}
-use Rattle.std.proofs.Common.{refl, sym, ap, ◌∙◌, subst, arith}
+use Rattle.std.proofs.Common.{refl, sym, ap, ◌∙◌, subst, arith, append_assoc}
 use Rattle.std.proofs.lemmas.List.{length-map, length-reverse, get_or-map, map-append, reverse-append, append-nil}
 use Rattle.std.proofs.lemmas.List.Elements.{All-nil, All-cons, All-head, All-tail}
 use Rattle.atomic_table.specs.Seated.{TableId}
@@ -36,16 +36,26 @@ joins_more v ws u w x all one = record {
   own = subst (λ (n : ℕ). of n x.seen ≡ of n u.seen) all.number one.own ∙ all.own;
 }
 
+-- The senders that are given back, with one more.
+pub senders_more : (done more : List Sender) (given : List Job) (j : Job) → more ≡ done ++ j.sender ∷ [] → done ≡ map (λ (x : Job). x.sender) given
+    → more ≡ map (λ (x : Job). x.sender) (given ++ j ∷ [])
+senders_more done more given j is before =
+    is ∙ ap (λ (ss : List Sender). ss ++ j.sender ∷ []) before ∙ sym (map-append (λ (x : Job). x.sender) given (j ∷ []))
+
+-- One job more is given of the same jobs.
+pub given_more : (given old rest all : List Job) (j : Job) → old ≡ j ∷ rest → given ++ old ≡ all → (given ++ j ∷ []) ++ rest ≡ all
+given_more given old rest all j is before = append_assoc given (j ∷ []) rest ∙ ap (λ (js : List Job). given ++ js) (sym is) ∙ before
+
 -- ---- the jobs of senders
 
-pub jobs_length : (b : TableId) (seen : List Entry) (n : ℕ) (ss : List Sender) → length (jobs_of b seen n ss) ≡ length ss
+jobs_length : (b : TableId) (seen : List Entry) (n : ℕ) (ss : List Sender) → length (jobs_of b seen n ss) ≡ length ss
 jobs_length b seen n [] = refl
 jobs_length b seen n (s ∷ ss) = let rest = jobs_length b seen (n + 1) ss in omega (arith, rest)
 
-abbrev pub job_of : TableId → List Entry → ℕ → Sender → Job
+abbrev job_of : TableId → List Entry → ℕ → Sender → Job
 job_of b seen n s = record { pass = record { book = b; view = new_pass n Idle seen 0 }; sender = s }
 
-pub jobs_at : (b : TableId) (seen : List Entry) (n : ℕ) (ss : List Sender) (i : ℕ) (d : Job) (s : Sender) → i < length ss
+jobs_at : (b : TableId) (seen : List Entry) (n : ℕ) (ss : List Sender) (i : ℕ) (d : Job) (s : Sender) → i < length ss
     → slice_index_or (jobs_of b seen n ss) i d ≡ job_of b seen (i + n) (slice_index_or ss i s)
 jobs_at b seen n [] i d s low = absurd (omega (arith, low))
 jobs_at b seen n (x ∷ ss) zero d s low = let e : n ≡ 0 + n = omega arith in ap (λ (m : ℕ). job_of b seen m x) e
@@ -53,7 +63,7 @@ jobs_at b seen n (x ∷ ss) (suc i) d s low =
     let e : i + (n + 1) ≡ suc i + n = omega arith in
     jobs_at b seen (n + 1) ss i d s (omega (arith, low)) ∙ ap (λ (m : ℕ). job_of b seen m (slice_index_or ss i s)) e
 
-pub jobs_ready : (b : TableId) (seen : List Entry) (n : ℕ) (ss : List Sender) → All HasCallsFor ss → All (IsReady b) (jobs_of b seen n ss)
+jobs_ready : (b : TableId) (seen : List Entry) (n : ℕ) (ss : List Sender) → All HasCallsFor ss → All (IsReady b) (jobs_of b seen n ss)
 jobs_ready b seen n [] all = All-nil (IsReady b)
 jobs_ready b seen n (s ∷ ss) all =
     let r : HasCallsFor s = All-head HasCallsFor s ss all in
@@ -61,14 +71,24 @@ jobs_ready b seen n (s ∷ ss) all =
     (record { book_is = refl; calls = let c = r.calls in omega (arith, c); none = r.none })
     (jobs_ready b seen (n + 1) ss (All-tail HasCallsFor s ss all))
 
-pub split_jobs : (b : TableId) (first : List Entry) (v : View) (before : List Sender) (jobs : List Job) → jobs ≡ jobs_of b v.seen 2 before
+split_jobs : (b : TableId) (first : List Entry) (v : View) (before : List Sender) (jobs : List Job) → jobs ≡ jobs_of b v.seen 2 before
     → v ≡ new_pass 1 Idle first 1 → jobs ≡ jobs_of b first 2 before
 split_jobs b first v before jobs is view = is ∙ ap (λ (x : View). jobs_of b x.seen 2 before) view
 
+pub split_ready : (b : TableId) (first : List Entry) (v : View) (before : List Sender) (jobs : List Job) → jobs ≡ jobs_of b v.seen 2 before
+    → v ≡ new_pass 1 Idle first 1 → All HasCallsFor before → All (IsReady b) jobs
+split_ready b first v before jobs is view calls =
+    subst (λ (js : List Job). All (IsReady b) js) (sym (split_jobs b first v before jobs is view)) (jobs_ready b first 2 before calls)
+
 -- The first pass before the joins.
-pub start_view : (first : List Entry) (n : ℕ) (p q : PassState) → q ≡ record p { view = record p.view { made = n } }
+start_view : (first : List Entry) (n : ℕ) (p q : PassState) → q ≡ record p { view = record p.view { made = n } }
     → p.view ≡ new_pass 1 Idle first 1 → q.view ≡ new_pass 1 Idle first n
 start_view first n p q is view = ap (λ (x : PassState). x.view) is ∙ ap (λ (v : View). record v { made = n }) view
+
+-- The joins, from the first pass as it came.
+pub joined_from : (first : List Entry) (n : ℕ) (p q : PassState) (ws : List View) (u : View) → q ≡ record p { view = record p.view { made = n } }
+    → p.view ≡ new_pass 1 Idle first 1 → JoinsAll q.view ws u → JoinsAll (new_pass 1 Idle first n) ws u
+joined_from first n p q ws u is view joins = subst (λ (v : View). JoinsAll v ws u) (start_view first n p q is view) joins
 
 -- An item of a list that has one.
 some_item : {X : Type 0} (xs : List X) (i : ℕ) → i < length xs → X
@@ -117,14 +137,15 @@ pub record Ran (shape : Shape) (room : ℕ) (b : TableId) (first : List Entry) (
   pub many : length jobs ≡ length before
   pub works : (i : ℕ) (d : Job) → i < length before → Works shape room (slice_index_or (jobs_of b first 2 before) i d) (slice_index_or jobs i d)
 
-pub ran : (shape : Shape) (room : ℕ) (b : TableId) (first : List Entry) (before : List Sender) (old new : List Job)
-    → old ≡ jobs_of b first 2 before → length new ≡ length old
+pub ran : (shape : Shape) (room : ℕ) (b : TableId) (first : List Entry) (before : List Sender) (v : View) (old new : List Job)
+    → old ≡ jobs_of b v.seen 2 before → v ≡ new_pass 1 Idle first 1 → length new ≡ length old
     → ((i : ℕ) (d : Job) → i < length old → Works shape room (slice_index_or old i d) (slice_index_or new i d)) → Ran shape room b first before new
-ran shape room b first before old new is long works =
-    let len : length old ≡ length before = ap (λ (js : List Job). length js) is ∙ jobs_length b first 2 before in
+ran shape room b first before v old new is view long works =
+    let split = split_jobs b first v before old is view in
+    let len : length old ≡ length before = ap (λ (js : List Job). length js) split ∙ jobs_length b first 2 before in
     record {
       many = long ∙ len;
-      works = λ i d low. subst (λ (js : List Job). Works shape room (slice_index_or js i d) (slice_index_or new i d)) is (works i d (omega (arith, low, len)));
+      works = λ i d low. subst (λ (js : List Job). Works shape room (slice_index_or js i d) (slice_index_or new i d)) split (works i d (omega (arith, low, len)));
     }
 
 module _ (shape : Shape) (room : ℕ) (b : TableId) (first : List Entry) (before : List Sender) (jobs : List Job)
@@ -148,11 +169,10 @@ module _ (shape : Shape) (room : ℕ) (b : TableId) (first : List Entry) (before
       let w = works_at i d s low in
       record { paired = w.uploader.paired ∙ ap (λ us. length us) w.same.uploads; pumps = w.pumps }
 
-  -- What the workers and the closed journal say together.
-  pub worked : (u : View) (entries : List Entry) (fault : Option Entry)
+  worked_here : (u : View) (entries : List Entry) (fault : Option Entry)
       → JoinsAll (new_pass 1 Idle first (length before + 1)) (views jobs) u → Closes first u entries fault
       → HaveWorked shape room first before (map (λ (j : Job). j.sender) jobs) entries fault
-  worked u entries fault joins closes =
+  worked_here u entries fault joins closes =
       let many = r.many in
       record {
         workers = map worker_of jobs;
@@ -173,3 +193,10 @@ module _ (shape : Shape) (room : ℕ) (b : TableId) (first : List Entry) (before
             (sym (get_or-map (λ (j : Job). j.sender) jobs i dummy s inside)) (works_at i dummy s low).same;
         ended = outcomes jobs;
       }
+
+  -- What the workers and the closed journal say together.
+  pub worked : (u : View) (after : List Sender) (entries : List Entry) (fault : Option Entry)
+      → JoinsAll (new_pass 1 Idle first (length before + 1)) (views jobs) u → after ≡ map (λ (j : Job). j.sender) jobs → Closes first u entries fault
+      → HaveWorked shape room first before after entries fault
+  worked u after entries fault joins is closes =
+      subst (λ (ss : List Sender). HaveWorked shape room first before ss entries fault) (sym is) (worked_here u entries fault joins closes)
