@@ -124,26 +124,29 @@ module _ {D : Type 0} (w : Scenario) (old new : JournalState D) (ss : List Sende
   pub concluded : IsWhole w → (t : Told) → Concludes w new ss t → HasRun rose w old new (status_told t) (text_told t)
   concluded fits (told.Report text) is =
       ended status.Ok text.items (no_more new.entries new.fault is.0, (sent.worked.done (all_done is.1)).1, is.2)
-  concluded fits (told.Conflict text) is = ended status.Conflict text.items (
-    no_more new.entries new.fault is.0,
-    record {
-      key = is.2;
-      kept = is.3;
-      came = is.4;
-      clash = explained fits is.1 (faults.Conflict is.2 is.3 is.4) is.5;
-      is = is.6 ∙ lines (conflict_line is.2 is.3 is.4);
-    },
-  )
+  concluded fits (told.Conflict text) is =
+      let c = is.1 in
+      ended status.Conflict text.items (
+        no_more new.entries new.fault is.0,
+        record {
+          key = c.1;
+          kept = c.2;
+          came = c.3;
+          clash = explained fits c.0 (faults.Conflict c.1 c.2 c.3) c.4;
+          is = c.5 ∙ lines (conflict_line c.1 c.2 c.3);
+        },
+      )
   concluded fits (told.Full text) is =
-      let c = explained fits is.1 (faults.Full is.2 is.3) is.4 in
+      let c = is.1 in
+      let why = explained fits c.0 (faults.Full c.1 c.2) c.3 in
       ended status.Full text.items (
         no_more new.entries new.fault is.0,
         record {
-          held = is.2;
-          more = is.3;
-          overfull = c.0;
-          no_room = c.1;
-          is = is.5 ∙ lines (full_line is.2 is.3);
+          held = c.1;
+          more = c.2;
+          overfull = why.0;
+          no_room = why.1;
+          is = c.4 ∙ lines (full_line c.1 c.2);
         },
       )
   concluded fits (told.DiskFault text) is = ended status.DiskFault text.items (cause is.0.0 is.0.1, is.1 ∙ lines disk_fault_line)
