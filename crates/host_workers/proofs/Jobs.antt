@@ -145,12 +145,14 @@ ran shape room b first before v old new is view long works =
     let len : length old ≡ length before = ap (λ (js : List Job). length js) split ∙ jobs_length b first 2 before in
     record {
       many = long ∙ len;
-      works = λ i d low. subst (λ (js : List Job). Works shape room (slice_index_or js i d) (slice_index_or new i d)) split (works i d (omega (arith, low, len)));
+      works = λ i d low.
+          subst (λ (js : List Job). Works shape room (slice_index_or js i d) (slice_index_or new i d)) split (works i d (omega (arith, low, len)));
     }
 
 module _ (shape : Shape) (room : ℕ) (b : TableId) (first : List Entry) (before : List Sender) (jobs : List Job)
     (r : Ran shape room b first before jobs) where
-  works_at : (i : ℕ) (d : Job) (s : Sender) → i < length before → Works shape room (job_of b first (i + 2) (slice_index_or before i s)) (slice_index_or jobs i d)
+  works_at : (i : ℕ) (d : Job) (s : Sender) → i < length before
+      → Works shape room (job_of b first (i + 2) (slice_index_or before i s)) (slice_index_or jobs i d)
   works_at i d s low = subst (λ (j : Job). Works shape room j (slice_index_or jobs i d)) (jobs_at b first 2 before i d s low) (r.works i d low)
 
   numbers : (i : ℕ) (d : Job) → i < length before → (slice_index_or jobs i d).pass.view.number ≡ i + 2

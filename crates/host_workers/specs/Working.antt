@@ -9,7 +9,6 @@ use Rattle.uploader_core.specs.Uploader.{IsUploader}
 use Rattle.link_deliveries.specs.Waiting.{refusals}
 use Rattle.link_deliveries.specs.Deliveries.{deliveries}
 use Rattle.lock_rule.specs.declared.view.Doing.TheVariants.{Idle}
-use Rattle.lock_rule.specs.declared.view.Joined.{Joined}
 use Rattle.lock_rule.specs.declared.view.View.{View}
 use Rattle.lock_rule.specs.Closing.{Closes}
 use Rattle.lock_rule.specs.Views.{most_calls, of, new_pass, joined_of}
@@ -37,7 +36,8 @@ pub record IsReady (book : TableId) (j : Job) : Type 0 where
 -- The jobs of senders, whose passes are new ones with the numbers from n on.
 abbrev pub jobs_of : TableId → (seen : List Entry) → (n : ℕ) → List Sender → List Job
 jobs_of book seen n [] = []
-jobs_of book seen n (s ∷ ss) = record { pass = record { book = book; view = new_pass n Idle seen 0 }; sender = s } ∷ jobs_of book seen (n + 1) ss
+jobs_of book seen n (s ∷ ss) =
+    record { pass = record { book = book; view = new_pass n Idle seen 0 }; sender = s } ∷ jobs_of book seen (n + 1) ss
 
 -- There is room for so many workers.
 pub record HasSeats (count : ℕ) (s : Seats) : Type 0 where

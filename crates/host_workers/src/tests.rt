@@ -29,9 +29,11 @@ fn upload(alloc: Global, host: u16, seq: u32) -> Result<Upload, Fail> {
         delay: 20,
     };
     let column = Column::new(key, Dims { rows: 2, width: 1 }, [bucket; 8]).ok_or("no column")?;
-    Ok(Upload::new(host, seq, [column].to_vec(alloc)?)
-        .ok()
-        .ok_or("no upload")?)
+    Ok(
+        Upload::new(host, seq, [column].to_vec(alloc)?)
+            .ok()
+            .ok_or("no upload")?,
+    )
 }
 
 // What a host sends: three uploads, over a link with these letters.
@@ -102,12 +104,7 @@ fn run<R: Threads + Wait + Sync>(
 #[test]
 fn workers_bring_all_uploads(rt: HostRuntime) -> Result<(), Fail> {
     let alloc = rt.alloc();
-    let letters = [
-        Letter::Lose,
-        Letter::LoseReply,
-        Letter::Twice,
-        Letter::Hold,
-    ];
+    let letters = [Letter::Lose, Letter::LoseReply, Letter::Twice, Letter::Hold];
     let mut senders = Vec::new(alloc);
     add(alloc, &mut senders, 1, &letters)?;
     add(alloc, &mut senders, 2, &letters)?;
