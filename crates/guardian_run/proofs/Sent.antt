@@ -2,7 +2,7 @@
 use Rattle.std.specs.Prelude.{◌≡◌, ℕ, zero, suc, ◌+◌, ◌*◌, ◌<◌, ◌≤◌, ◌^◌, List, [], ◌∷◌, ◌++◌, length, map, replicate, All, Any, Option, None, Some, Result, Ok, Err, IsOk, slice_index_or, slice_get}
 use Rattle.std.specs.List.{range_with_len, enumerate_from, flat_map, AllByRecursion}
 use Rattle.std.proofs.Common.{refl, sym, ap, subst, ◌∙◌, arith, get_or, length-append}
-use Rattle.std.proofs.lemmas.List.{length-map, get_or-map, map-append}
+use Rattle.std.proofs.lemmas.List.{length-map, get_or-map, map-append, get_or_default}
 use Rattle.std.proofs.lemmas.List.FromFn.{length-range_with_len, get_or-range_with_len, length-enumerate_from}
 use Rattle.std.proofs.lemmas.List.Elements.{All-cons, All-nil, All-from_recursion}
 use Rattle.lg_model.specs.declared.limits.TheConstants.{MOST_LETTERS, MOST_PACKETS}
@@ -101,6 +101,12 @@ own_at w inboxes h fits arrived low = record {
 
 pub senders_count : (w : Scenario) (n : ℕ) (ss : List Sender) → AreSenders w n ss → length ss ≡ n
 senders_count w n ss are = sym (length-map ss sending_of) ∙ ap length are ∙ length-map (range_with_len 0 n) (sending_at w) ∙ length-range_with_len 0 n
+
+-- the host that the code reads
+pub host_read : (w : Scenario) (at : ℕ) (hosts : List HostLine) (host : HostLine) → hosts ≡ w.hosts → at < length hosts → host ≡ slice_index_or hosts at host →
+    host_at w at ≡ host
+host_read w at hosts host same low is =
+    get_or_default w.hosts at no_host host (omega (arith, low, ap length same)) ∙ ap (λ (hs : List HostLine). slice_index_or hs at host) (sym same) ∙ sym is
 
 -- the sender of a host
 pub sender_is : (w : Scenario) (n : ℕ) (ss : List Sender) (h : ℕ) (s : Sender) → AreSenders w n ss → h < n → sending_of (slice_index_or ss h s) ≡ sending_at w h

@@ -1,7 +1,7 @@
 -- What the uploads of a run made of the journal, by what is told.
-use Rattle.std.specs.Prelude.{◌≡◌, ◌⊎◌, ℕ, zero, suc, ◌<◌, ◌≤◌, true, false, List, [], ◌∷◌, ◌++◌, length, map, All, Any, Option, None, Some, Result, Ok, Err, IsOk, slice_index_or, slice_get}
+use Rattle.std.specs.Prelude.{◌≡◌, ◌⊎◌, ℕ, zero, suc, ◌<◌, ◌≤◌, true, false, List, [], ◌∷◌, ◌++◌, length, map, All, Any, Option, None, Some, Bool, is_some, Result, Ok, Err, IsOk, IfOk, IfErr, slice_index_or, slice_get}
 use Rattle.std.specs.List.{flat_map}
-use Rattle.std.proofs.Common.{refl, sym, ap, ◌∙◌, subst, inl, inr, arith}
+use Rattle.std.proofs.Common.{refl, sym, ap, ◌∙◌, subst, inl, inr, arith, true≢false}
 use Rattle.std.proofs.lemmas.List.{append-nil, length-map, get_or-map, map-append}
 use mathlib.Core.List.{IsPrefix}
 use Rattle.lg_model.specs.declared.column.Key.{Key}
@@ -32,7 +32,8 @@ use Rattle.guardian_run.specs.declared.telling.Told.{Told}
 use Rattle.guardian_run.specs.declared.telling.Told.TheVariants as told
 use Rattle.guardian_run.specs.Sending.{acks_by, lines_of, IsFine, HasMet, CanBeMet, AllCanBeMet, HaveSent}
 use Rattle.guardian_run.specs.Running.{acked_lines, RunSays}
-use Rattle.guardian_run.specs.Telling.{status_told, text_told, Concludes, HasRun}
+use Rattle.lg_base.specs.declared.faults.Memory.{Memory}
+use Rattle.guardian_run.specs.Telling.{status_told, text_told, CanBeTold, TellsStop, Concludes, HasRun}
 use Rattle.guardian_run.proofs.Sent.{some_item}
 use Rattle.guardian_run.proofs.AckedLines.{lines_are}
 
@@ -76,7 +77,7 @@ module _ {D : Type 0} (w : Scenario) (old new : JournalState D) (ss : List Sende
       is_ok (slice_index_or sent.workers h d).result (result_is h d s here ∙ fine h s here)
     where
       is_ok : (r : Result (Unit {0}) WorkFault) → r ≡ Ok tt → IsOk r
-      is_ok (Ok x) is = tt
+      is_ok (Ok x) is = refl
       is_ok (Err f) is = absurd (cc is)
 
   explained : IsWhole w → (q : ℕ) (fault : ApplyFault) → Any (HasMet (Refused q fault)) ss → IsExplained w (records old.entries) new.fault fault
@@ -150,6 +151,53 @@ module _ {D : Type 0} (w : Scenario) (old new : JournalState D) (ss : List Sende
         },
       )
   concluded fits (told.DiskFault text) is = ended status.DiskFault text.items (cause is.0.0 is.0.1, is.1 ∙ lines disk_fault_line)
+
+-- ---- what is told of a fault
+
+can_be_told : (o : Option Entry) (f : ApplyFault) → o ≡ None → CanBeMet o f → CanBeTold f
+can_be_told o (faults.Conflict key kept came) none is = tt
+can_be_told o (faults.Full held more) none is = tt
+can_be_told o faults.DiskFault none is = tt
+can_be_told o (faults.Broken n) none is = absurd (cc (sym none ∙ is.1))
+can_be_told o (faults.WrongShape kept came) none is = absurd is
+can_be_told o faults.Memory none is = tt
+
+pub told_fault : {D : Type 0} → (j : JournalState D) (ss : List Sender) (q : ℕ) (f : ApplyFault) → j.fault ≡ None → AllCanBeMet j.fault ss →
+    Any (HasMet (Refused q f)) ss → CanBeTold f
+told_fault j ss q f none all any = can_be_told j.fault f none (all q f any)
+
+pub told_stop : {D : Type 0} → (w : Scenario) (j : JournalState D) (ss : List Sender) (q : ℕ) (f : ApplyFault) (r : Result Told Memory) → j.fault ≡ None →
+    AllCanBeMet j.fault ss → Any (HasMet (Refused q f)) ss → IfOk r (TellsStop (flat_map lines_of ss) f) → IfOk r (Concludes w j ss)
+told_stop w j ss q f (Err e) none all any tells = tt
+told_stop w j ss q f (Ok t) none all any tells = by f any (all q f any) t tells
+  where
+    by : (g : ApplyFault) → Any (HasMet (Refused q g)) ss → CanBeMet j.fault g → (t : Told) → TellsStop (flat_map lines_of ss) g t → Concludes w j ss t
+    by (faults.Conflict key kept came) has can (told.Conflict text) is = (none, (q, key, kept, came, has, is.1))
+    by (faults.Conflict key kept came) has can (told.Report text) is = absurd (cc is.0)
+    by (faults.Conflict key kept came) has can (told.Full text) is = absurd (cc is.0)
+    by (faults.Conflict key kept came) has can (told.DiskFault text) is = absurd (cc is.0)
+    by (faults.Full held more) has can (told.Full text) is = (none, (q, held, more, has, is.1))
+    by (faults.Full held more) has can (told.Report text) is = absurd (cc is.0)
+    by (faults.Full held more) has can (told.Conflict text) is = absurd (cc is.0)
+    by (faults.Full held more) has can (told.DiskFault text) is = absurd (cc is.0)
+    by faults.DiskFault has can t is = absurd (cc (sym none ∙ can.1))
+    by (faults.Broken n) has can t is = absurd is
+    by (faults.WrongShape kept came) has can t is = absurd is
+    by faults.Memory has can t is = absurd is
+
+-- ---- what a call hands on
+
+pub ok_so : {T F : Type 0} → (r : Result T F) (P Q : T → Type 0) → ((x : T) → P x → Q x) → IfOk r P → IfOk r Q
+ok_so (Ok x) P Q move holds = move x holds
+ok_so (Err f) P Q move holds = tt
+
+pub err_any : {T F : Type 0} → (r : Result T F) (P : Type 0) → P → IfErr r (λ _. P)
+err_any (Ok x) P holds = tt
+err_any (Err f) P holds = holds
+
+pub none_of : {X : Type 0} → (o : Option X) (b : Bool) → b ≡ is_some o → b ≡ false → o ≡ None
+none_of None b is no_ = refl
+none_of (Some x) b is no_ = absurd (true≢false (sym is ∙ no_))
 
 -- ---- memory ran out before the first upload
 

@@ -64,8 +64,11 @@ pub record HaveSent (w : Scenario) (first entries : List Entry) (fault : Option 
 -- ---- what is told
 
 -- A line for each acknowledged upload, in the order of their numbers.
+abbrev pub line_of : UploaderState → (q : ℕ) → List ℕ
+line_of u q = if acked_at u.states q then acked_line u.host q else []
+
 abbrev pub lines_with : UploaderState → List ℕ
-lines_with u = flat_map (λ q. if acked_at u.states q then acked_line u.host q else []) (range_with_len 0 (length u.uploads))
+lines_with u = flat_map (line_of u) (range_with_len 0 (length u.uploads))
 
 abbrev pub lines_of : Sender → List ℕ
 lines_of s = lines_with s.uploader

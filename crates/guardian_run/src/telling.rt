@@ -1,5 +1,5 @@
 //! What a run tells: the report on the journal's book, or which uploads were acknowledged before one was refused.
-ghost use Rattle.std.specs.Prelude.{◌≡◌, ◌++◌, ◌<◌, List, All, Any, None, Some, IfOk, IfErr, MatchResult};
+ghost use Rattle.std.specs.Prelude.{◌≡◌, ◌++◌, ◌<◌, length, All, Any, None, IfOk, IfErr, MatchResult};
 ghost use Rattle.std.specs.List.{flat_map};
 ghost use Rattle.lg_base.specs.Causes.{Rose};
 ghost use Rattle.scenario_parts.specs.Whole.{IsWhole};
@@ -10,7 +10,7 @@ ghost use Rattle.book_journal.specs.Runs.{IsRun, start_of};
 ghost use Rattle.report_text.specs.Faults.{no_memory_line};
 ghost use Rattle.shared_book.specs.Going.{GoesOn};
 ghost use Rattle.guardian_run.specs.declared.status.Status.TheVariants.{NoMemory};
-ghost use Rattle.guardian_run.specs.Sending.{lines_of, lines_with, IsFine, HasMet, AllCanBeMet};
+ghost use Rattle.guardian_run.specs.Sending.{line_of, lines_of, lines_with, IsFine, HasMet, AllCanBeMet};
 ghost use Rattle.guardian_run.specs.Telling.{status_told, text_told, CanBeTold, Concludes, TellsStop, HasRun};
 
 use crate::reporting::report;
@@ -39,15 +39,23 @@ pub(crate) enum Told {
     DiskFault(Vec<u8>),
 }
 
+// The line of an upload, where it is acknowledged.
+fn put_if_acked(text: &mut Vec<u8>, uploader: &Uploader, seq: u32) -> Result<(), Memory>
+    requires { seq < length uploader.now.uploads }
+    ensures { IfOk result (λ _. text.new.items ≡ text.old.items ++ line_of uploader.now seq) }
+{
+    if !uploader.acked(seq) {
+        return Ok(());
+    }
+    put_acked_line(text, uploader.host(), seq)
+}
+
 // The lines of the acknowledged uploads of a host.
 fn put_acked(text: &mut Vec<u8>, uploader: &Uploader) -> Result<(), Memory>
     ensures { IfOk result (λ _. text.new.items ≡ text.old.items ++ lines_with uploader.now) }
 {
-    let host = uploader.host();
     for seq in 0..uploader.len() {
-        if uploader.acked(seq) {
-            put_acked_line(text, host, seq)?;
-        }
+        put_if_acked(text, uploader, seq)?;
     }
     Ok(())
 }
@@ -65,11 +73,7 @@ fn acked_text(alloc: Global, senders: &[Sender<'_>]) -> Result<Vec<u8>, Memory>
 
 // What is told where an upload was refused: the lines of those that were acknowledged, and the line of the fault. Memory
 // where there is none for them.
-fn stopped(
-    alloc: Global,
-    senders: &[Sender<'_>],
-    fault: ApplyFault,
-) -> Result<Told, Memory>
+fn stopped(alloc: Global, senders: &[Sender<'_>], fault: ApplyFault) -> Result<Told, Memory>
     requires told { CanBeTold fault }
     ensures { IfOk result (TellsStop (flat_map lines_of senders.now) fault) }
 {

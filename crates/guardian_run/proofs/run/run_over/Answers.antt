@@ -33,7 +33,7 @@ returns-clause-ends g c =
     let start = c.args.disk in
     let asked = c.shape.ensures.value in
     let j = c.in-Ok.journal in
-    let new = c.tell.result.1 in
+    let new = c.tell-told.result.1 in
     let o = c.in-Ok.ensures in
     subst (λ d. RunsFrom g.D.Disk.honest g.D.Disk.seen g.D.Disk.images g.D.Disk.moment g.D.Disk.since g.D.Disk.faults w sink start d c.end_run.result)
     (sym c.close-disk.ensures.disk)
@@ -41,5 +41,5 @@ returns-clause-ends g c =
     c.lists_are_true.ensures c.files_stand_for_one_list.ensures sink start j new (ap (λ x. x.shape) o.book ∙ asked)
     (λ h. subst (λ (s : Shape). StandsFor s (records j.entries) (g.D.Disk.seen start)) asked (o.stands h))
     (λ h. subst (λ (s : Shape). OpenLeaves g.D.Disk.honest g.D.Disk.seen g.D.Disk.images g.D.Disk.moment g.D.Disk.since s start j.disk) asked (o.leaves h))
-    o.was o.never_falls c.tell.ensures.goes_on c.end_run.result c.tell.result.0 c.tell.ensures.told c.tell.ensures.starved
+    o.was o.never_falls c.tell-told.ensures.goes_on c.end_run.result c.tell-told.result.0 c.tell-told.ensures.told c.tell-told.ensures.starved
     c.end_run.ensures.told c.end_run.ensures.starved)
