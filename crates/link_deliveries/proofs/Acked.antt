@@ -14,37 +14,46 @@ length_one : (ss : List SeqState) (d : Delivery) → length (acknowledge_one ss 
 length_one ss d = elim d.heard as (λ b. length (cond b (set ss d.seq Acknowledged) ss) ≡ length ss) [ true ↦ length-set ss d.seq Acknowledged | false ↦ refl ]
 
 -- what is acknowledge stays so
-stays_one : (ss : List SeqState) (d : Delivery) (q : ℕ) → q < length ss → is_acknowledged (get_or ss q Refused) ≡ true → is_acknowledged (get_or (acknowledge_one ss d) q Refused) ≡ true
+stays_one : (ss : List SeqState) (d : Delivery) (q : ℕ) → q < length ss → is_acknowledged (get_or ss q Refused) ≡ true
+    → is_acknowledged (get_or (acknowledge_one ss d) q Refused) ≡ true
 stays_one ss d q short was = elim d.heard as (λ b. is_acknowledged (get_or (cond b (set ss d.seq Acknowledged) ss) q Refused) ≡ true) [
   | true ↦ (elim (eqb q d.seq) as (λ b. eqb q d.seq ≡ b → is_acknowledged (get_or (set ss d.seq Acknowledged) q Refused) ≡ true) [
-    | true ↦ λ is. let same = eqb-true q d.seq is in ap (λ (n : ℕ). is_acknowledged (get_or (set ss n Acknowledged) q Refused)) (sym same) ∙ ap is_acknowledged (get_or-set_same ss q Acknowledged Refused short)
+    | true ↦ λ is. let same = eqb-true q d.seq is in
+        ap (λ (n : ℕ). is_acknowledged (get_or (set ss n Acknowledged) q Refused)) (sym same)
+        ∙ ap is_acknowledged (get_or-set_same ss q Acknowledged Refused short)
     | false ↦ λ is. ap is_acknowledged (get_or-set_other ss d.seq q Acknowledged Refused (λ e. let t = eq-eqb q d.seq e in cc)) ∙ was
   ]) refl
   | false ↦ was
 ]
 
-pub stays : (ss : List SeqState) (ds : List Delivery) (q : ℕ) → q < length ss → is_acknowledged (get_or ss q Refused) ≡ true → is_acknowledged (get_or (acknowledge ss ds) q Refused) ≡ true
+pub stays : (ss : List SeqState) (ds : List Delivery) (q : ℕ) → q < length ss → is_acknowledged (get_or ss q Refused) ≡ true
+    → is_acknowledged (get_or (acknowledge ss ds) q Refused) ≡ true
 stays ss [] q short was = was
 stays ss (d ∷ ds) q short was = let l = length_one ss d in stays (acknowledge_one ss d) ds q (omega arith) (stays_one ss d q short was)
 
 -- an upload whose reply is heard is acknowledge
-pub hears : (ss : List SeqState) (earlier later : List Delivery) (d : Delivery) → d.seq < length ss → d.heard ≡ true → is_acknowledged (get_or (acknowledge ss (earlier ++ d ∷ later)) d.seq Refused) ≡ true
+pub hears : (ss : List SeqState) (earlier later : List Delivery) (d : Delivery) → d.seq < length ss → d.heard ≡ true
+    → is_acknowledged (get_or (acknowledge ss (earlier ++ d ∷ later)) d.seq Refused) ≡ true
 hears ss [] later d short is =
-    let one : is_acknowledged (get_or (acknowledge_one ss d) d.seq Refused) ≡ true = ap (λ (b : Bool). is_acknowledged (get_or (cond b (set ss d.seq Acknowledged) ss) d.seq Refused)) is ∙ ap is_acknowledged (get_or-set_same ss d.seq Acknowledged Refused short) in
+    let one : is_acknowledged (get_or (acknowledge_one ss d) d.seq Refused)
+    ≡ true = ap (λ (b : Bool). is_acknowledged (get_or (cond b (set ss d.seq Acknowledged) ss) d.seq Refused)) is
+    ∙ ap is_acknowledged (get_or-set_same ss d.seq Acknowledged Refused short) in
     let l = length_one ss d in
     stays (acknowledge_one ss d) later d.seq (omega arith) one
 hears ss (x ∷ earlier) later d short is = let l = length_one ss x in hears (acknowledge_one ss x) earlier later d (omega arith) is
 
 -- what is acknowledge was so before, or is one of the deliveries
-pub acked_from : (P : ℕ → Type 0) (ss : List SeqState) (ds : List Delivery) (q : ℕ) → All (λ (d : Delivery). P d.seq) ds → (is_acknowledged (get_or ss q Refused) ≡ true → P q) → is_acknowledged (get_or (acknowledge ss ds) q Refused) ≡ true → P q
+pub acked_from : (P : ℕ → Type 0) (ss : List SeqState) (ds : List Delivery) (q : ℕ) → All (λ (d : Delivery). P d.seq) ds
+    → (is_acknowledged (get_or ss q Refused) ≡ true → P q) → is_acknowledged (get_or (acknowledge ss ds) q Refused) ≡ true → P q
 acked_from P ss [] q all was is = was is
-acked_from P ss (d ∷ ds) q all was is = acked_from P (acknowledge_one ss d) ds q (All-tail (λ (x : Delivery). P x.seq) d ds all) (elim d.heard as (λ b. is_acknowledged (get_or (cond b (set ss d.seq Acknowledged) ss) q Refused) ≡ true → P q) [
-  | true ↦ λ now. (elim (eqb q d.seq) as (λ b. eqb q d.seq ≡ b → P q) [
-    | true ↦ λ same. subst P (sym (eqb-true q d.seq same)) (All-head (λ (x : Delivery). P x.seq) d ds all)
-    | false ↦ λ other. was (sym (ap is_acknowledged (get_or-set_other ss d.seq q Acknowledged Refused (λ e. let t = eq-eqb q d.seq e in cc))) ∙ now)
-  ]) refl
-  | false ↦ was
-]) is
+acked_from P ss (d ∷ ds) q all was is = acked_from P (acknowledge_one ss d) ds q (All-tail (λ (x : Delivery). P x.seq) d ds all)
+    (elim d.heard as (λ b. is_acknowledged (get_or (cond b (set ss d.seq Acknowledged) ss) q Refused) ≡ true → P q) [
+      | true ↦ λ now. (elim (eqb q d.seq) as (λ b. eqb q d.seq ≡ b → P q) [
+        | true ↦ λ same. subst P (sym (eqb-true q d.seq same)) (All-head (λ (x : Delivery). P x.seq) d ds all)
+        | false ↦ λ other. was (sym (ap is_acknowledged (get_or-set_other ss d.seq q Acknowledged Refused (λ e. let t = eq-eqb q d.seq e in cc))) ∙ now)
+      ]) refl
+      | false ↦ was
+    ]) is
 
 -- Where no letter loses a reply, each reply is heard.
 abbrev Kept : Letter → Type 0
@@ -56,15 +65,18 @@ letter_kept (l ∷ ls) all = All-head Kept l ls all
 
 offered_kept : (qs : List ℕ) (ls : List Letter) → All Kept ls → All (λ (s : Send). Kept s.letter) (offered qs ls)
 offered_kept [] ls all = All-nil (λ (s : Send). Kept s.letter)
-offered_kept (q ∷ qs) ls all = All-cons (λ (s : Send). Kept s.letter) (send q (letter_of ls)) (offered qs (drop 1 ls)) (letter_kept ls all) (offered_kept qs (drop 1 ls) (All-drop Kept 1 ls all))
+offered_kept (q ∷ qs) ls all = All-cons (λ (s : Send). Kept s.letter) (send q (letter_of ls)) (offered qs (drop 1 ls)) (letter_kept ls all)
+    (offered_kept qs (drop 1 ls) (All-drop Kept 1 ls all))
 
 window_kept : (out held : ℕ) (ss : List Send) → All (λ (s : Send). Kept s.letter) ss → All (λ (s : Send). Kept s.letter) (window out held ss)
 window_kept out held [] all = All-nil (λ (s : Send). Kept s.letter)
-window_kept out held (s ∷ ss) all = elim (nat_lt out 8) as (λ b. All (λ (x : Send). Kept x.letter) (cond b (s ∷ window (out_after s.letter out held) (count_held s.letter held) ss) [])) [
-  | true ↦ All-cons (λ (x : Send). Kept x.letter) s (window (out_after s.letter out held) (count_held s.letter held) ss) (All-head (λ (x : Send). Kept x.letter) s ss all)
-      (window_kept (out_after s.letter out held) (count_held s.letter held) ss (All-tail (λ (x : Send). Kept x.letter) s ss all))
-  | false ↦ All-nil (λ (x : Send). Kept x.letter)
-]
+window_kept out held (s ∷ ss) all =
+    elim (nat_lt out 8) as (λ b. All (λ (x : Send). Kept x.letter) (cond b (s ∷ window (out_after s.letter out held) (count_held s.letter held) ss) [])) [
+      | true ↦ All-cons (λ (x : Send). Kept x.letter) s (window (out_after s.letter out held) (count_held s.letter held) ss)
+          (All-head (λ (x : Send). Kept x.letter) s ss all)
+          (window_kept (out_after s.letter out held) (count_held s.letter held) ss (All-tail (λ (x : Send). Kept x.letter) s ss all))
+      | false ↦ All-nil (λ (x : Send). Kept x.letter)
+    ]
 
 abbrev pub IsHeard : Delivery → Type 0
 IsHeard d = d.heard ≡ true
@@ -84,7 +96,8 @@ brought_heard : (held : List ℕ) (ss : List Send) → All (λ (s : Send). Kept 
 brought_heard held [] all = all_heard held
 brought_heard held (s ∷ ss) all =
     All-append IsHeard (brings s held) (brought (held_after s.letter s.seq held) ss)
-    (All-append IsHeard (at_once s.letter s.seq) (map heard (let_go s.letter held)) (at_once_heard s.letter s.seq (All-head (λ (x : Send). Kept x.letter) s ss all)) (all_heard (let_go s.letter held)))
+    (All-append IsHeard (at_once s.letter s.seq) (map heard (let_go s.letter held))
+    (at_once_heard s.letter s.seq (All-head (λ (x : Send). Kept x.letter) s ss all)) (all_heard (let_go s.letter held)))
     (brought_heard (held_after s.letter s.seq held) ss (All-tail (λ (x : Send). Kept x.letter) s ss all))
 
 round_heard : (ss : List SeqState) (ls : List Letter) → All Kept ls → All IsHeard (round ss ls)
@@ -92,10 +105,12 @@ round_heard ss ls all = brought_heard [] (sends ss ls) (window_kept (outstanding
 
 rounds_heard : (n : ℕ) (ss : List SeqState) (ls : List Letter) → All Kept ls → All IsHeard (rounds n ss ls)
 rounds_heard zero ss ls all = All-nil IsHeard
-rounds_heard (suc n) ss ls all = elim (all_acknowledged ss) as (λ b. All IsHeard (cond b [] (round ss ls ++ rounds n (after_round ss ls) (letters_after ss ls)))) [
-  | true ↦ All-nil IsHeard
-  | false ↦ All-append IsHeard (round ss ls) (rounds n (after_round ss ls) (letters_after ss ls)) (round_heard ss ls all) (rounds_heard n (after_round ss ls) (letters_after ss ls) (All-drop Kept (length (sends ss ls)) ls all))
-]
+rounds_heard (suc n) ss ls all =
+    elim (all_acknowledged ss) as (λ b. All IsHeard (cond b [] (round ss ls ++ rounds n (after_round ss ls) (letters_after ss ls)))) [
+      | true ↦ All-nil IsHeard
+      | false ↦ All-append IsHeard (round ss ls) (rounds n (after_round ss ls) (letters_after ss ls)) (round_heard ss ls all)
+          (rounds_heard n (after_round ss ls) (letters_after ss ls) (All-drop Kept (length (sends ss ls)) ls all))
+    ]
 
 pub each_heard : (ss : List SeqState) (ls : List Letter) → All (λ (l : Letter). l ≢ LoseReply) ls → All IsHeard (brought_in_all ss ls)
 unfolding brought_in_all

@@ -43,12 +43,14 @@ ticked_all (s ∷ ss) all = (elim s as (λ x. all_acknowledged (x ∷ ss) ≡ tr
 
 ticked_at : (ss : List SeqState) (q : ℕ) → is_acknowledged (get_or (ticked ss) q Refused) ≡ is_acknowledged (get_or ss q Refused)
 ticked_at [] q = refl
-ticked_at (s ∷ ss) zero = elim s as (λ x. is_acknowledged (idle_again x) ≡ is_acknowledged x) [ Idle ↦ refl | Outstanding ↦ refl | Acknowledged ↦ refl | Refused ↦ refl ]
+ticked_at (s ∷ ss) zero =
+    elim s as (λ x. is_acknowledged (idle_again x) ≡ is_acknowledged x) [ Idle ↦ refl | Outstanding ↦ refl | Acknowledged ↦ refl | Refused ↦ refl ]
 ticked_at (s ∷ ss) (suc q) = ticked_at ss q
 
 -- enough rounds acknowledge all: one round, and the rest
 more : (n : ℕ) (ss : List SeqState) (ls : List Letter) → refusals ss ≡ 0 → rounds_left ss ls ≤ suc n → all_acknowledged ss ≡ false
-    → (refusals (after_round ss ls) ≡ 0 → rounds_left (after_round ss ls) (letters_after ss ls) ≤ n → all_acknowledged (acknowledge (ticked (after_round ss ls)) (rounds n (after_round ss ls) (letters_after ss ls))) ≡ true)
+    → (refusals (after_round ss ls) ≡ 0 → rounds_left (after_round ss ls) (letters_after ss ls) ≤ n
+    → all_acknowledged (acknowledge (ticked (after_round ss ls)) (rounds n (after_round ss ls) (letters_after ss ls))) ≡ true)
     → all_acknowledged (acknowledge (ticked ss) (rounds (suc n) ss ls)) ≡ true
 more n ss ls none enough some rest =
     let one = one_round (suc n) ss ls some none enough in
@@ -57,29 +59,35 @@ more n ss ls none enough some rest =
     let same = ticked_refused ss in
     let next = after_round ss ls in
     let still = ticked_none next (after_out ss ls) in
-    let here : rounds (suc n) ss ls ≡ round ss ls ++ rounds n next (letters_after ss ls) = ap (λ (b : Bool). cond b [] (round ss ls ++ rounds n next (letters_after ss ls))) some in
+    let here : rounds (suc n) ss ls ≡ round ss ls ++ rounds n next (letters_after ss ls)
+    = ap (λ (b : Bool). cond b [] (round ss ls ++ rounds n next (letters_after ss ls))) some in
     ap (λ (ds : List Delivery). all_acknowledged (acknowledge (ticked ss) ds)) here
     ∙ (ap all_acknowledged (fold-append acknowledge_one (ticked ss) (round ss ls) (rounds n next (letters_after ss ls)))
     ∙ (ap (λ (l : List SeqState). all_acknowledged (acknowledge l (rounds n next (letters_after ss ls)))) (sym still) ∙ rest (omega arith) (omega arith)))
 
-ends : (n : ℕ) (ss : List SeqState) (ls : List Letter) → refusals ss ≡ 0 → rounds_left ss ls ≤ n → all_acknowledged (acknowledge (ticked ss) (rounds n ss ls)) ≡ true
+ends : (n : ℕ) (ss : List SeqState) (ls : List Letter) → refusals ss ≡ 0 → rounds_left ss ls ≤ n
+    → all_acknowledged (acknowledge (ticked ss) (rounds n ss ls)) ≡ true
 ends zero ss ls none enough = (elim (all_acknowledged ss) as (λ b. all_acknowledged ss ≡ b → all_acknowledged (ticked ss) ≡ true) [
   | true ↦ λ all. ticked_all ss all
   | false ↦ λ some. let one = one_round 0 ss ls some none enough in let f = one.fewer in absurd (omega arith)
 ]) refl
-ends (suc n) ss ls none enough = (elim (all_acknowledged ss) as (λ b. all_acknowledged ss ≡ b → all_acknowledged (acknowledge (ticked ss) (rounds (suc n) ss ls)) ≡ true) [
-  | true ↦ λ all. ap (λ (ds : List Delivery). all_acknowledged (acknowledge (ticked ss) ds)) (no_round (suc n) ss ls all) ∙ ticked_all ss all
-  | false ↦ λ some. more n ss ls none enough some (ends n (after_round ss ls) (letters_after ss ls))
-]) refl
+ends (suc n) ss ls none enough =
+    (elim (all_acknowledged ss) as (λ b. all_acknowledged ss ≡ b → all_acknowledged (acknowledge (ticked ss) (rounds (suc n) ss ls)) ≡ true) [
+      | true ↦ λ all. ap (λ (ds : List Delivery). all_acknowledged (acknowledge (ticked ss) ds)) (no_round (suc n) ss ls all) ∙ ticked_all ss all
+      | false ↦ λ some. more n ss ls none enough some (ends n (after_round ss ls) (letters_after ss ls))
+    ]) refl
 
 -- what is idle waits
 idle_wait : (pre ss : List SeqState) → All (Waits (pre ++ ss)) (idle_from (length pre) ss)
 idle_wait pre [] = All-nil (Waits (pre ++ []))
 idle_wait pre (s ∷ ss) =
     let on : All (Waits (pre ++ s ∷ ss)) (idle_from (length pre + 1) ss)
-    = subst (λ n. All (Waits (pre ++ s ∷ ss)) (idle_from n ss)) (length-append pre (s ∷ [])) (subst (λ l. All (Waits l) (idle_from (length (pre ++ s ∷ [])) ss)) (append_assoc pre (s ∷ []) ss) (idle_wait (pre ++ s ∷ []) ss)) in
-    (elim s as (λ x. All (Waits (pre ++ x ∷ ss)) (idle_from (length pre + 1) ss) → All (Waits (pre ++ x ∷ ss)) (cond (is_idle x) (length pre ∷ idle_from (length pre + 1) ss) (idle_from (length pre + 1) ss))) [
-      | Idle ↦ λ l. All-cons (Waits (pre ++ Idle ∷ ss)) (length pre) (idle_from (length pre + 1) ss) (record { short = simp length-append (omega arith); waits = ap is_acknowledged (get_or_at pre Idle ss Refused (length pre) refl) }) l
+    = subst (λ n. All (Waits (pre ++ s ∷ ss)) (idle_from n ss)) (length-append pre (s ∷ []))
+    (subst (λ l. All (Waits l) (idle_from (length (pre ++ s ∷ [])) ss)) (append_assoc pre (s ∷ []) ss) (idle_wait (pre ++ s ∷ []) ss)) in
+    (elim s as (λ x. All (Waits (pre ++ x ∷ ss)) (idle_from (length pre + 1) ss)
+    → All (Waits (pre ++ x ∷ ss)) (cond (is_idle x) (length pre ∷ idle_from (length pre + 1) ss) (idle_from (length pre + 1) ss))) [
+      | Idle ↦ λ l. All-cons (Waits (pre ++ Idle ∷ ss)) (length pre) (idle_from (length pre + 1) ss)
+          (record { short = simp length-append (omega arith); waits = ap is_acknowledged (get_or_at pre Idle ss Refused (length pre) refl) }) l
       | Outstanding ↦ λ l. l
       | Acknowledged ↦ λ l. l
       | Refused ↦ λ l. l
@@ -88,12 +96,14 @@ idle_wait pre (s ∷ ss) =
 -- a round brings uploads that it sends, or held before
 offered_all : (P : ℕ → Type 0) (qs : List ℕ) (ls : List Letter) → All P qs → All (λ (s : Send). P s.seq) (offered qs ls)
 offered_all P [] ls all = All-nil (λ (s : Send). P s.seq)
-offered_all P (q ∷ qs) ls all = All-cons (λ (s : Send). P s.seq) (send q (letter_of ls)) (offered qs (drop 1 ls)) (All-head P q qs all) (offered_all P qs (drop 1 ls) (All-tail P q qs all))
+offered_all P (q ∷ qs) ls all = All-cons (λ (s : Send). P s.seq) (send q (letter_of ls)) (offered qs (drop 1 ls)) (All-head P q qs all)
+    (offered_all P qs (drop 1 ls) (All-tail P q qs all))
 
 window_all : (P : Send → Type 0) (out held : ℕ) (ss : List Send) → All P ss → All P (window out held ss)
 window_all P out held [] all = All-nil P
 window_all P out held (s ∷ ss) all = elim (nat_lt out 8) as (λ b. All P (cond b (s ∷ window (out_after s.letter out held) (count_held s.letter held) ss) [])) [
-  | true ↦ All-cons P s (window (out_after s.letter out held) (count_held s.letter held) ss) (All-head P s ss all) (window_all P (out_after s.letter out held) (count_held s.letter held) ss (All-tail P s ss all))
+  | true ↦ All-cons P s (window (out_after s.letter out held) (count_held s.letter held) ss) (All-head P s ss all)
+      (window_all P (out_after s.letter out held) (count_held s.letter held) ss (All-tail P s ss all))
   | false ↦ All-nil P
 ]
 
@@ -122,20 +132,24 @@ held_after_all P LoseReply q held p all = All-nil P
 held_after_all P Twice q held p all = All-nil P
 held_after_all P Hold q held p all = All-append P held (q ∷ []) all (All-cons P q [] p (All-nil P))
 
-brought_all : (P : ℕ → Type 0) (held : List ℕ) (ss : List Send) → All P held → All (λ (s : Send). P s.seq) ss → All (λ (d : Delivery). P d.seq) (brought held ss)
+brought_all : (P : ℕ → Type 0) (held : List ℕ) (ss : List Send) → All P held → All (λ (s : Send). P s.seq) ss
+    → All (λ (d : Delivery). P d.seq) (brought held ss)
 brought_all P held [] h all = heard_all P held h
 brought_all P held (s ∷ ss) h all =
     let p = All-head (λ (x : Send). P x.seq) s ss all in
     All-append (λ (d : Delivery). P d.seq) (brings s held) (brought (held_after s.letter s.seq held) ss)
-    (All-append (λ (d : Delivery). P d.seq) (at_once s.letter s.seq) (map heard (let_go s.letter held)) (at_once_all P s.letter s.seq p) (heard_all P (let_go s.letter held) (let_go_all P s.letter held h)))
+    (All-append (λ (d : Delivery). P d.seq) (at_once s.letter s.seq) (map heard (let_go s.letter held)) (at_once_all P s.letter s.seq p)
+    (heard_all P (let_go s.letter held) (let_go_all P s.letter held h)))
     (brought_all P (held_after s.letter s.seq held) ss (held_after_all P s.letter s.seq held p h) (All-tail (λ (x : Send). P x.seq) s ss all))
 
 round_waits : (ss : List SeqState) (ls : List Letter) → All (λ (d : Delivery). Waits ss d.seq) (round ss ls)
-round_waits ss ls = brought_all (Waits ss) [] (sends ss ls) (All-nil (Waits ss)) (window_all (λ (s : Send). Waits ss s.seq) (outstanding ss) 0 (offered (idle_from 0 ss) ls) (offered_all (Waits ss) (idle_from 0 ss) ls (idle_wait [] ss)))
+round_waits ss ls = brought_all (Waits ss) [] (sends ss ls) (All-nil (Waits ss))
+    (window_all (λ (s : Send). Waits ss s.seq) (outstanding ss) 0 (offered (idle_from 0 ss) ls) (offered_all (Waits ss) (idle_from 0 ss) ls (idle_wait [] ss)))
 
 length_all : (ss : List SeqState) (ds : List Delivery) → length (acknowledge ss ds) ≡ length ss
 length_all ss [] = refl
-length_all ss (d ∷ ds) = length_all (acknowledge_one ss d) ds ∙ (elim d.heard as (λ b. length (cond b (set ss d.seq Acknowledged) ss) ≡ length ss) [ true ↦ length-set ss d.seq Acknowledged | false ↦ refl ])
+length_all ss (d ∷ ds) = length_all (acknowledge_one ss d) ds
+    ∙ (elim d.heard as (λ b. length (cond b (set ss d.seq Acknowledged) ss) ≡ length ss) [ true ↦ length-set ss d.seq Acknowledged | false ↦ refl ])
 
 -- what waits after a round waited before it
 waited : (ss : List SeqState) (ls : List Letter) (q : ℕ) → Waits (after_round ss ls) q → Waits ss q
@@ -153,11 +167,14 @@ waited ss ls q w =
 
 only : (n : ℕ) (ss : List SeqState) (ls : List Letter) → All (λ (d : Delivery). Waits ss d.seq) (rounds n ss ls)
 only zero ss ls = All-nil (λ (d : Delivery). Waits ss d.seq)
-only (suc n) ss ls = elim (all_acknowledged ss) as (λ b. All (λ (d : Delivery). Waits ss d.seq) (cond b [] (round ss ls ++ rounds n (after_round ss ls) (letters_after ss ls)))) [
-  | true ↦ All-nil (λ (d : Delivery). Waits ss d.seq)
-  | false ↦ All-append (λ (d : Delivery). Waits ss d.seq) (round ss ls) (rounds n (after_round ss ls) (letters_after ss ls)) (round_waits ss ls)
-      (All-weaker (λ (d : Delivery). Waits (after_round ss ls) d.seq) (λ (d : Delivery). Waits ss d.seq) (λ d w. waited ss ls d.seq w) (rounds n (after_round ss ls) (letters_after ss ls)) (only n (after_round ss ls) (letters_after ss ls)))
-]
+only (suc n) ss ls
+    = elim (all_acknowledged ss) as (λ b. All (λ (d : Delivery). Waits ss d.seq)
+    (cond b [] (round ss ls ++ rounds n (after_round ss ls) (letters_after ss ls)))) [
+      | true ↦ All-nil (λ (d : Delivery). Waits ss d.seq)
+      | false ↦ All-append (λ (d : Delivery). Waits ss d.seq) (round ss ls) (rounds n (after_round ss ls) (letters_after ss ls)) (round_waits ss ls)
+          (All-weaker (λ (d : Delivery). Waits (after_round ss ls) d.seq) (λ (d : Delivery). Waits ss d.seq) (λ d w. waited ss ls d.seq w)
+          (rounds n (after_round ss ls) (letters_after ss ls)) (only n (after_round ss ls) (letters_after ss ls)))
+    ]
 
 unmap : (P : ℕ → Type 0) (ds : List Delivery) → All P (numbers ds) → All (λ (d : Delivery). P d.seq) ds
 unmap P [] all = All-nil (λ (d : Delivery). P d.seq)
@@ -174,7 +191,8 @@ law ss ls none =
           let short = w.short in
           let long = length_all (ticked ss) ds in
           let t = length-map ss idle_again in
-          let now : is_acknowledged (get_or (acknowledge (ticked ss) ds) q Refused) ≡ true = AllPass-from_list_all is_acknowledged (acknowledge (ticked ss) ds) end q Refused (omega arith) in
+          let now : is_acknowledged (get_or (acknowledge (ticked ss) ds) q Refused) ≡ true
+          = AllPass-from_list_all is_acknowledged (acknowledge (ticked ss) ds) end q Refused (omega arith) in
           acked_from (λ (k : ℕ). Contains (numbers ds) k) (ticked ss) ds q (unmap (λ (k : ℕ). Contains (numbers ds) k) ds (All-contains_itself (numbers ds)))
           (λ was. let e : true ≡ false = sym was ∙ (ticked_at ss q ∙ w.waits) in absurd cc) now;
       only = All-map (Waits ss) (λ (d : Delivery). d.seq) (rounds n ss ls) (only n ss ls);
@@ -199,7 +217,8 @@ no_letters ss out none = (elim (all_acknowledged ss) as (λ b. all_acknowledged 
   | false ↦ λ some.
       let first : round ss [] ≡ map heard (idle_from 0 ss) = open_window (idle_from 0 ss) (outstanding ss) out in
       let rest : rounds 1 (after_round ss []) (letters_after ss []) ≡ [] = no_round 1 (after_round ss []) (letters_after ss []) (last_round ss out none) in
-      let both : rounds 2 ss [] ≡ map heard (idle_from 0 ss) = ap (λ (b : Bool). cond b [] (round ss [] ++ rounds 1 (after_round ss []) (letters_after ss []))) some
+      let both : rounds 2 ss [] ≡ map heard (idle_from 0 ss)
+      = ap (λ (b : Bool). cond b [] (round ss [] ++ rounds 1 (after_round ss []) (letters_after ss []))) some
       ∙ (ap (λ (l : List Delivery). round ss [] ++ l) rest ∙ (append-nil (round ss []) ∙ first)) in
       ap numbers both ∙ numbers_heard (idle_from 0 ss)
 ]) refl

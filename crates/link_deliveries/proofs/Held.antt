@@ -24,7 +24,8 @@ held_else ss q x (h ∷ hs) idle held =
     )
 
 -- one more is held
-pub held_more : (ss : List SeqState) (q : ℕ) (hs : List ℕ) → q < length ss → get_or ss q Refused ≡ Idle → IsHeld ss hs → IsHeld (set ss q Outstanding) (hs ++ q ∷ [])
+pub held_more : (ss : List SeqState) (q : ℕ) (hs : List ℕ) → q < length ss → get_or ss q Refused ≡ Idle → IsHeld ss hs
+    → IsHeld (set ss q Outstanding) (hs ++ q ∷ [])
 held_more ss q [] short idle held = (simp length-set short, get_or-set_same ss q Outstanding Refused short, tt)
 held_more ss q (h ∷ hs) short idle held =
     let far = apart ss h q held.1 idle in (

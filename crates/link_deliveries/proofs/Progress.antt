@@ -14,13 +14,16 @@ use Rattle.link_deliveries.proofs.Idle.{count-cons}
 -- a tick leaves nothing outstanding, and refuses none
 pub ticked_out : (ss : List SeqState) → outstanding (ticked ss) ≡ 0
 ticked_out [] = refl
-ticked_out (s ∷ ss) = count-cons is_outstanding (idle_again s) (ticked ss) ∙ (ap (λ (n : ℕ). cond {A = ℕ} (is_outstanding (idle_again s)) 1 0 + n) (ticked_out ss)
+ticked_out (s ∷ ss) =
+    count-cons is_outstanding (idle_again s) (ticked ss) ∙ (ap (λ (n : ℕ). cond {A = ℕ} (is_outstanding (idle_again s)) 1 0 + n) (ticked_out ss)
     ∙ elim s as (λ x. cond {A = ℕ} (is_outstanding (idle_again x)) 1 0 + 0 ≡ 0) [ Idle ↦ refl | Outstanding ↦ refl | Acknowledged ↦ refl | Refused ↦ refl ])
 
 pub ticked_refused : (ss : List SeqState) → refusals (ticked ss) ≡ refusals ss
 ticked_refused [] = refl
-ticked_refused (s ∷ ss) = count-cons is_refused (idle_again s) (ticked ss) ∙ (ap (λ (n : ℕ). cond {A = ℕ} (is_refused (idle_again s)) 1 0 + n) (ticked_refused ss)
-    ∙ (elim s as (λ x. cond {A = ℕ} (is_refused (idle_again x)) 1 0 + refusals ss ≡ cond {A = ℕ} (is_refused x) 1 0 + refusals ss) [ Idle ↦ refl | Outstanding ↦ refl | Acknowledged ↦ refl | Refused ↦ refl ]
+ticked_refused (s ∷ ss) =
+    count-cons is_refused (idle_again s) (ticked ss) ∙ (ap (λ (n : ℕ). cond {A = ℕ} (is_refused (idle_again s)) 1 0 + n) (ticked_refused ss)
+    ∙ (elim s as (λ x. cond {A = ℕ} (is_refused (idle_again x)) 1 0 + refusals ss ≡ cond {A = ℕ} (is_refused x) 1 0 + refusals ss)
+    [ Idle ↦ refl | Outstanding ↦ refl | Acknowledged ↦ refl | Refused ↦ refl ]
     ∙ sym (count-cons is_refused s ss)))
 
 -- an acknowledge upload is in no count of others
@@ -37,7 +40,8 @@ count_down p (s ∷ ss) (suc q) not =
     let c = count_down p ss q not in
     omega arith
 
-pub acknowledged_down : (p : SeqState → Bool) (ss : List SeqState) (ds : List Delivery) → p Acknowledged ≡ false → count_by p (acknowledge ss ds) ≤ count_by p ss
+pub acknowledged_down : (p : SeqState → Bool) (ss : List SeqState) (ds : List Delivery) → p Acknowledged ≡ false
+    → count_by p (acknowledge ss ds) ≤ count_by p ss
 acknowledged_down p ss [] not = omega arith
 acknowledged_down p ss (d ∷ ds) not =
     let rest = acknowledged_down p (acknowledge_one ss d) ds not in
@@ -85,7 +89,8 @@ all_on pre (Idle ∷ ss) out ref =
     let b = count-cons is_refused Idle ss in
     let on = all_on (pre ++ Acknowledged ∷ []) ss (omega arith) (omega arith) in
     let long : length (pre ++ Acknowledged ∷ []) ≡ length pre + 1 = length-append pre (Acknowledged ∷ []) in
-    ap (λ (l : List SeqState). acknowledge l (map heard (idle_from (length pre + 1) ss))) (set_at pre Idle (ticked ss) Acknowledged (length pre) refl ∙ sym (append_assoc pre (Acknowledged ∷ []) (ticked ss)))
+    ap (λ (l : List SeqState). acknowledge l (map heard (idle_from (length pre + 1) ss)))
+    (set_at pre Idle (ticked ss) Acknowledged (length pre) refl ∙ sym (append_assoc pre (Acknowledged ∷ []) (ticked ss)))
     ∙ (ap (λ (n : ℕ). acknowledge ((pre ++ Acknowledged ∷ []) ++ ticked ss) (map heard (idle_from n ss))) (sym long)
     ∙ (on ∙ append_assoc pre (Acknowledged ∷ []) (map (λ (s : SeqState). Acknowledged) ss)))
 all_on pre (Outstanding ∷ ss) out ref = let a = count-cons is_outstanding Outstanding ss in absurd (omega arith)
@@ -105,7 +110,8 @@ all_are (s ∷ ss) = all_are ss
 
 pub last_round : (ss : List SeqState) → outstanding ss ≡ 0 → refusals ss ≡ 0 → all_acknowledged (after_round ss []) ≡ true
 last_round ss out ref =
-    ap all_acknowledged (ap (λ (ds : List Delivery). acknowledge (ticked ss) ds) (open_window (idle_from 0 ss) (outstanding ss) out) ∙ all_on [] ss out ref) ∙ all_are ss
+    ap all_acknowledged (ap (λ (ds : List Delivery). acknowledge (ticked ss) ds) (open_window (idle_from 0 ss) (outstanding ss) out) ∙ all_on [] ss out ref)
+    ∙ all_are ss
 
 -- how many rounds are left, where nothing is outstanding
 few_left : (ss : List SeqState) (ls : List Letter) → outstanding ss ≡ 0 → rounds_left ss ls ≤ length ls + 1
@@ -117,14 +123,16 @@ few_left ss ls none = elim (all_acknowledged ss) as (λ b. cond {A = ℕ} b 0 (l
 none_left : (ss : List SeqState) (ls : List Letter) → all_acknowledged ss ≡ true → rounds_left ss ls ≡ 0
 none_left ss ls all = rw all refl
 
-progress_full : (ss : List SeqState) (ls : List Letter) → all_acknowledged ss ≡ false → nat_eq (outstanding ss) 0 ≡ false → rounds_left (after_round ss ls) (letters_after ss ls) < rounds_left ss ls
+progress_full : (ss : List SeqState) (ls : List Letter) → all_acknowledged ss ≡ false → nat_eq (outstanding ss) 0 ≡ false
+    → rounds_left (after_round ss ls) (letters_after ss ls) < rounds_left ss ls
 progress_full ss ls all some =
     let few = few_left (after_round ss ls) (letters_after ss ls) (after_out ss ls) in
     let short = length-drop (length (sends ss ls)) ls in
     let left : rounds_left ss ls ≡ length ls + 2 = rw (all, some) refl in
     omega arith
 
-progress_none : (ss : List SeqState) (ls : List Letter) → all_acknowledged ss ≡ false → refusals ss ≡ 0 → outstanding ss ≡ 0 → rounds_left (after_round ss ls) (letters_after ss ls) < rounds_left ss ls
+progress_none : (ss : List SeqState) (ls : List Letter) → all_acknowledged ss ≡ false → refusals ss ≡ 0 → outstanding ss ≡ 0
+    → rounds_left (after_round ss ls) (letters_after ss ls) < rounds_left ss ls
 progress_none ss [] all ref none =
     let end = none_left (after_round ss []) (letters_after ss []) (last_round ss none ref) in
     let left : rounds_left ss [] ≡ 1 = rw (all, none) refl in
@@ -137,11 +145,13 @@ progress_none ss (l ∷ ls) all ref none =
     omega arith
 
 -- each round leaves fewer
-pub progress : (ss : List SeqState) (ls : List Letter) → all_acknowledged ss ≡ false → refusals ss ≡ 0 → rounds_left (after_round ss ls) (letters_after ss ls) < rounds_left ss ls
-progress ss ls all ref = (elim (nat_eq (outstanding ss) 0) as (λ b. nat_eq (outstanding ss) 0 ≡ b → rounds_left (after_round ss ls) (letters_after ss ls) < rounds_left ss ls) [
-  | true ↦ λ is. progress_none ss ls all ref (eqb-true (outstanding ss) 0 is)
-  | false ↦ λ is. progress_full ss ls all is
-]) refl
+pub progress : (ss : List SeqState) (ls : List Letter) → all_acknowledged ss ≡ false → refusals ss ≡ 0
+    → rounds_left (after_round ss ls) (letters_after ss ls) < rounds_left ss ls
+progress ss ls all ref =
+    (elim (nat_eq (outstanding ss) 0) as (λ b. nat_eq (outstanding ss) 0 ≡ b → rounds_left (after_round ss ls) (letters_after ss ls) < rounds_left ss ls) [
+      | true ↦ λ is. progress_none ss ls all ref (eqb-true (outstanding ss) 0 is)
+      | false ↦ λ is. progress_full ss ls all is
+    ]) refl
 
 -- the rounds from where not all are acknowledge: one, and the rest
 pub record OneRound (n : ℕ) (ss : List SeqState) (ls : List Letter) : Type 0 where
@@ -154,7 +164,12 @@ pub one_round : (n : ℕ) (ss : List SeqState) (ls : List Letter) → all_acknow
 one_round zero ss ls all ref enough = let p = progress ss ls all ref in absurd (omega arith)
 one_round (suc n) ss ls all ref enough =
     let p = progress ss ls all ref in
-    record { rest = n; is = ap (λ (b : Bool). cond b [] (round ss ls ++ rounds n (after_round ss ls) (letters_after ss ls))) all; enough = omega arith; fewer = p }
+    record {
+      rest = n;
+      is = ap (λ (b : Bool). cond b [] (round ss ls ++ rounds n (after_round ss ls) (letters_after ss ls))) all;
+      enough = omega arith;
+      fewer = p;
+    }
 
 pub no_round : (n : ℕ) (ss : List SeqState) (ls : List Letter) → all_acknowledged ss ≡ true → rounds n ss ls ≡ []
 no_round zero ss ls all = refl

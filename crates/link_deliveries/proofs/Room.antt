@@ -32,15 +32,18 @@ one_fewer : (ss : List SeqState) (q : ℕ) (held : List ℕ) → IsNext ss q →
 one_fewer ss q held n =
     let a = acknowledged_down is_waiting (set (set ss q Outstanding) q Acknowledged) (map heard held) refl in
     let b = sent_on ss q n in
-    let c : unacknowledged (set (set ss q Outstanding) q Acknowledged) ≡ unacknowledged (set ss q Acknowledged) = ap unacknowledged (set-set ss q Outstanding Acknowledged) in
+    let c : unacknowledged (set (set ss q Outstanding) q Acknowledged) ≡ unacknowledged (set ss q Acknowledged)
+    = ap unacknowledged (set-set ss q Outstanding Acknowledged) in
     omega arith
 
 -- of 2 applications a letter, one an upload that waits and one an upload held, a send leaves as many
 pub record HasRoom (begun limit : ℕ) (ss : List SeqState) (q : ℕ) (held : List ℕ) (ls : List Letter) : Type 0 where
   pub now : begun + length (brings (send q (letter_of ls)) held) ≤ limit
-  pub then : (begun + length (brings (send q (letter_of ls)) held)) + 2 * length (drop 1 ls) + unacknowledged (after_send ss q (letter_of ls) held) + length (held_after (letter_of ls) q held) ≤ limit
+  pub then : (begun + length (brings (send q (letter_of ls)) held)) + 2 * length (drop 1 ls) + unacknowledged (after_send ss q (letter_of ls) held)
+      + length (held_after (letter_of ls) q held) ≤ limit
 
-pub has_room : (begun limit : ℕ) (ss : List SeqState) (q : ℕ) (held : List ℕ) (ls : List Letter) → IsNext ss q → begun + 2 * length ls + unacknowledged ss + length held ≤ limit → HasRoom begun limit ss q held ls
+pub has_room : (begun limit : ℕ) (ss : List SeqState) (q : ℕ) (held : List ℕ) (ls : List Letter) → IsNext ss q
+    → begun + 2 * length ls + unacknowledged ss + length held ≤ limit → HasRoom begun limit ss q held ls
 has_room begun limit ss q held [] n room =
     let a = one_fewer ss q held n in
     let b = length-map held heard in
@@ -69,7 +72,8 @@ has_room begun limit ss q held (Hold ∷ ls) n room =
 pub ticked_waits : (ss : List SeqState) → unacknowledged (ticked ss) ≡ unacknowledged ss
 ticked_waits [] = refl
 ticked_waits (s ∷ ss) = count-cons is_waiting (idle_again s) (ticked ss) ∙ (ap (λ (n : ℕ). cond {A = ℕ} (is_waiting (idle_again s)) 1 0 + n) (ticked_waits ss)
-    ∙ (elim s as (λ x. cond {A = ℕ} (is_waiting (idle_again x)) 1 0 + unacknowledged ss ≡ cond {A = ℕ} (is_waiting x) 1 0 + unacknowledged ss) [ Idle ↦ refl | Outstanding ↦ refl | Acknowledged ↦ refl | Refused ↦ refl ]
+    ∙ (elim s as (λ x. cond {A = ℕ} (is_waiting (idle_again x)) 1 0 + unacknowledged ss ≡ cond {A = ℕ} (is_waiting x) 1 0 + unacknowledged ss)
+    [ Idle ↦ refl | Outstanding ↦ refl | Acknowledged ↦ refl | Refused ↦ refl ]
     ∙ sym (count-cons is_waiting s ss)))
 
 -- nor of what is acknowledge
@@ -84,7 +88,8 @@ ticked_acks (s ∷ ss) = (elim s as (λ x. is_acknowledged (idle_again x) ∷ ma
 
 -- nor does sending an upload that is to be after_send
 pub sent_acks : (ss : List SeqState) (q : ℕ) → IsNext ss q → map is_acknowledged (set ss q Outstanding) ≡ map is_acknowledged ss
-sent_acks ss q n = map-set is_acknowledged ss q Outstanding ∙ (sym (map-set is_acknowledged ss q Idle) ∙ ap (map is_acknowledged) (ap (λ (s : SeqState). set ss q s) (sym n.idle) ∙ set-get_or ss q Refused))
+sent_acks ss q n = map-set is_acknowledged ss q Outstanding
+    ∙ (sym (map-set is_acknowledged ss q Idle) ∙ ap (map is_acknowledged) (ap (λ (s : SeqState). set ss q s) (sym n.idle) ∙ set-get_or ss q Refused))
 
 pub sent_refused : (ss : List SeqState) (q : ℕ) → IsNext ss q → refusals (set ss q Outstanding) ≡ refusals ss
 sent_refused ss q n =

@@ -37,7 +37,8 @@ record Leaves (ss : List SeqState) (q : ℕ) (held : List ℕ) (l : Letter) : Ty
 -- all that was held is acknowledge with the upload after_send
 lets_go : (ss : List SeqState) (q : ℕ) (x : SeqState) (held : List ℕ) (after : List SeqState) → IsNext ss q → IsHeld ss held → is_idle x ≡ false
     → after ≡ acknowledge (set ss q x) (map heard held)
-    → (idle_from 0 ss ≡ q ∷ idle_from 0 after) × (outstanding after + length held ≡ outstanding ss + cond {A = ℕ} (is_outstanding x) 1 0) × (length held ≤ outstanding ss)
+    → (idle_from 0 ss ≡ q ∷ idle_from 0 after) × (outstanding after + length held ≡ outstanding ss + cond {A = ℕ} (is_outstanding x) 1 0)
+    × (length held ≤ outstanding ss)
 lets_go ss q x held after n h not is =
     let kept = held_else ss q x held n.idle h in
     let gone = held_out (set ss q x) held kept in
@@ -48,7 +49,8 @@ lets_go ss q x held after n h not is =
 
 leaves : (ss : List SeqState) (q : ℕ) (held : List ℕ) (l : Letter) → IsNext ss q → IsHeld ss held → Leaves ss q held l
 leaves ss q held Deliver n h =
-    let g = lets_go ss q Acknowledged held (after_send ss q Deliver held) n h refl (ap (λ (l : List SeqState). acknowledge l (map heard held)) (set-set ss q Outstanding Acknowledged)) in
+    let g = lets_go ss q Acknowledged held (after_send ss q Deliver held) n h refl
+    (ap (λ (l : List SeqState). acknowledge l (map heard held)) (set-set ss q Outstanding Acknowledged)) in
     let out = g.1 in
     let few = g.2 in
     record { idle = g.0; out = omega arith; count = refl; kept = tt }
@@ -60,12 +62,19 @@ leaves ss q held LoseReply n h =
     let few = g.2 in
     record { idle = g.0; out = omega arith; count = refl; kept = tt }
 leaves ss q held Twice n h =
-    let g = lets_go ss q Acknowledged held (after_send ss q Twice held) n h refl (ap (λ (l : List SeqState). acknowledge l (map heard held)) (set-set (set ss q Outstanding) q Acknowledged Acknowledged ∙ set-set ss q Outstanding Acknowledged)) in
+    let g = lets_go ss q Acknowledged held (after_send ss q Twice held) n h refl
+    (ap (λ (l : List SeqState). acknowledge l (map heard held))
+    (set-set (set ss q Outstanding) q Acknowledged Acknowledged ∙ set-set ss q Outstanding Acknowledged)) in
     let out = g.1 in
     let few = g.2 in
     record { idle = g.0; out = omega arith; count = refl; kept = tt }
 leaves ss q held Hold n h =
-    record { idle = idle_on ss q Outstanding n refl; out = out_on ss q Outstanding n; count = length-append held (q ∷ []); kept = held_more ss q held n.short n.idle h }
+    record {
+      idle = idle_on ss q Outstanding n refl;
+      out = out_on ss q Outstanding n;
+      count = length-append held (q ∷ []);
+      kept = held_more ss q held n.short n.idle h;
+    }
 
 -- A send, and the sends after it.
 pub record Sends (ss : List SeqState) (q : ℕ) (held : List ℕ) (ls : List Letter) : Type 0 where
@@ -79,9 +88,11 @@ sends_one ss q held ls n h =
     let s = leaves ss q held l n h in
     let after = after_send ss q l held in
     let wide : nat_lt (outstanding ss) 8 ≡ true = lt-ltb (outstanding ss) 8 n.room in
-    let step : sends_on ss held ls ≡ send q l ∷ window (out_after l (outstanding ss) (length held)) (count_held l (length held)) (offered (idle_from 0 after) (drop 1 ls))
+    let step : sends_on ss held ls ≡ send q l
+    ∷ window (out_after l (outstanding ss) (length held)) (count_held l (length held)) (offered (idle_from 0 after) (drop 1 ls))
     = ap (λ (qs : List ℕ). window (outstanding ss) (length held) (offered qs ls)) s.idle
-    ∙ ap (λ (b : Bool). cond b (send q l ∷ window (out_after l (outstanding ss) (length held)) (count_held l (length held)) (offered (idle_from 0 after) (drop 1 ls))) []) wide in
+    ∙ ap (λ (b : Bool). cond b (send q l ∷ window (out_after l (outstanding ss) (length held)) (count_held l (length held))
+    (offered (idle_from 0 after) (drop 1 ls))) []) wide in
     let counts = ap length s.idle in
     record {
       on = step ∙ (ap (λ (o : ℕ). send q l ∷ window o (count_held l (length held)) (offered (idle_from 0 after) (drop 1 ls))) (sym s.out)
@@ -115,7 +126,8 @@ ticked_acknowledged ss (d ∷ ds) =
 
 pub ticked_sent : (ss : List SeqState) (q : ℕ) → IsNext ss q → ticked (set ss q Outstanding) ≡ ticked ss
 ticked_sent ss q n =
-    map-set idle_again ss q Outstanding ∙ (sym (map-set idle_again ss q Idle) ∙ ap ticked (ap (λ (s : SeqState). set ss q s) (sym n.idle) ∙ set-get_or ss q Refused))
+    map-set idle_again ss q Outstanding ∙ (sym (map-set idle_again ss q Idle)
+    ∙ ap ticked (ap (λ (s : SeqState). set ss q s) (sym n.idle) ∙ set-get_or ss q Refused))
 
 -- Where a round stands: from its start at ss0 and ls0 the deliveries ds were made.
 pub record IsInRound (ss0 : List SeqState) (ls0 : List Letter) (ds : List Delivery) (ss : List SeqState) (held : List ℕ) (ls : List Letter) : Type 0 where
@@ -139,7 +151,8 @@ round_sends ss0 ls0 ds ss held ls q r n =
     let one_more : 1 + length later ≡ suc (length later) = omega arith in
     record {
       rest = append_assoc ds more (brought (held_after l q held) later) ∙ (ap (λ (sd : List Send). ds ++ brought held sd) (sym s.on) ∙ r.rest);
-      states = ticked_acknowledged (set ss q Outstanding) more ∙ (ap (λ (t : List SeqState). acknowledge t more) (ticked_sent ss q n ∙ r.states) ∙ sym (fold-append acknowledge_one (ticked ss0) ds more));
+      states = ticked_acknowledged (set ss q Outstanding) more
+          ∙ (ap (λ (t : List SeqState). acknowledge t more) (ticked_sent ss q n ∙ r.states) ∙ sym (fold-append acknowledge_one (ticked ss0) ds more));
       letters = drop-drop (length later) 1 ls ∙ (ap (λ (k : ℕ). drop k ls) one_more ∙ (ap (λ (sd : List Send). drop (length sd) ls) (sym s.on) ∙ r.letters));
       kept = s.kept;
     }

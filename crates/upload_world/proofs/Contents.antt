@@ -1,6 +1,5 @@
 -- What stands in a list of entries, and what is found in its content.
-use Rattle.std.specs.Prelude.{◌≡◌, ◌≢◌, ℕ, zero, suc, ◌+◌, ◌<◌, ◌≤◌, ◌⊎◌, Bool, true, false, cond, ◌||◌, List, [], ◌∷◌, ◌++◌, length, fold, filter, All, Any, Contains, Option, None, Some, IfSome, is_none, Result, Ok, Err, slice_index_or}
-use Rattle.std.specs.List.{list_any}
+use Rattle.std.specs.Prelude.{◌≡◌, ◌≢◌, ℕ, zero, suc, ◌<◌, ◌⊎◌, Bool, true, false, cond, ◌||◌, List, [], ◌∷◌, ◌++◌, length, fold, filter, All, Contains, Option, None, Some, IfSome, is_none, Result, Ok, slice_index_or}
 use Rattle.std.proofs.Common.{refl, sym, ap, ◌∙◌, subst, arith, inl, inr, true≢false, append-nil}
 use Rattle.std.proofs.lemmas.List.{map-append}
 use Rattle.std.proofs.lemmas.List.Elements.{All-nil, All-cons, All-contains, All-contains_itself, All-weaker, filter_passes, Contains-append_left, Contains-append_right}
@@ -8,13 +7,13 @@ use Rattle.std.proofs.lemmas.Grind.{flat_map-append}
 use Rattle.lg_model.specs.declared.column.Key.{Key}
 use Rattle.lg_model.specs.Placing.{Shape}
 use Rattle.lg_model.specs.Columns.{Cells, Column}
-use Rattle.lg_model.specs.Answer.{Content, with_column, content_of, found}
+use Rattle.lg_model.specs.Answer.{Content, with_column, found}
 use Rattle.sketchlet_wire.specs.Uploads.{UploadData, same_column_key, holds_key}
 use Rattle.column_book.specs.declared.entry.Entry.{Entry}
 use Rattle.column_book.specs.declared.fault.BookFault.{BookFault}
-use Rattle.column_book.specs.Entries.{records, columns_in, columns_of, content, content_in}
+use Rattle.column_book.specs.Entries.{records, columns_in, columns_of, content}
 use Rattle.column_book.specs.Applying.{is_new, new_columns, decide, stored_entry}
-use Rattle.column_book.specs.Outcomes.{IsSame, IsFitting, IsKnown, IsStored, Follows}
+use Rattle.column_book.specs.Outcomes.{IsSame, Follows}
 use Rattle.column_book.proofs.Keys.{one_key, key_itself}
 use Rattle.column_book.proofs.Outcomes as outcomes
 use Rattle.shared_book.specs.Passes.{HasNewBy}
@@ -28,7 +27,12 @@ pub came_from : (m : Content) (cs : List Column) (k : Key) (v : Cells) → found
 came_from m [] k v h = inl h
 came_from m (c ∷ cs) k v h = elim (came_from (with_column m c) cs k v h) [
   | inl here ↦ by (same_column_key k c.key) refl here
-  | inr later ↦ inr (record { column = later.column; inside = Contains-append_right (c ∷ []) cs later.column later.inside; key = later.key; cells = later.cells })
+  | inr later ↦ inr (record {
+    column = later.column;
+    inside = Contains-append_right (c ∷ []) cs later.column later.inside;
+    key = later.key;
+    cells = later.cells;
+  })
 ]
   where
     some_same : (x y : Cells) → Some x ≡ Some y → x ≡ y
@@ -99,7 +103,8 @@ pub stands_more : (u : UploadData) (es fs : List Entry) → StandsIn u es → St
 stands_more u es fs all = All-weaker (λ (c : Column). Has (columns_of es) c.key c.cells) (λ (c : Column). Has (columns_of (es ++ fs)) c.key c.cells)
     (λ c has. record {
       column = has.column;
-      inside = subst (λ (cs : List Column). Contains cs has.column) (sym (columns-append es fs)) (Contains-append_left (columns_of es) (columns_of fs) has.column has.inside);
+      inside = subst (λ (cs : List Column). Contains cs has.column) (sym (columns-append es fs))
+          (Contains-append_left (columns_of es) (columns_of fs) has.column has.inside);
       key = has.key;
       cells = has.cells;
     }) u.columns all
@@ -113,8 +118,10 @@ old_stands es c v is same =
       | inr has ↦ subst (Has (columns_of es) c.key) equal has
     ]
 
-stands : (es fs : List Entry) (u : UploadData) → All (IsSame (content es)) u.columns → ((c : Column) → Contains (new_columns (content es) u.columns) c → Contains (columns_of fs) c) → StandsIn u (es ++ fs)
-stands es fs u same new = All-weaker (Contains u.columns) (λ (c : Column). Has (columns_of (es ++ fs)) c.key c.cells) each u.columns (All-contains_itself u.columns)
+stands : (es fs : List Entry) (u : UploadData) → All (IsSame (content es)) u.columns
+    → ((c : Column) → Contains (new_columns (content es) u.columns) c → Contains (columns_of fs) c) → StandsIn u (es ++ fs)
+stands es fs u same new =
+    All-weaker (Contains u.columns) (λ (c : Column). Has (columns_of (es ++ fs)) c.key c.cells) each u.columns (All-contains_itself u.columns)
   where
     has_more : (c : Column) → Contains (columns_of fs) c → Has (columns_of (es ++ fs)) c.key c.cells
     has_more c has = record {
@@ -127,7 +134,8 @@ stands es fs u same new = All-weaker (Contains u.columns) (λ (c : Column). Has 
     old_more : (c : Column) → Has (columns_of es) c.key c.cells → Has (columns_of (es ++ fs)) c.key c.cells
     old_more c has = record {
       column = has.column;
-      inside = subst (λ (cs : List Column). Contains cs has.column) (sym (columns-append es fs)) (Contains-append_left (columns_of es) (columns_of fs) has.column has.inside);
+      inside = subst (λ (cs : List Column). Contains cs has.column) (sym (columns-append es fs))
+          (Contains-append_left (columns_of es) (columns_of fs) has.column has.inside);
       key = has.key;
       cells = has.cells;
     }
@@ -139,11 +147,13 @@ stands es fs u same new = All-weaker (Contains u.columns) (λ (c : Column). Has 
         by None is = has_more c (new c (contains_filter (is_new (content es)) u.columns c has (ap is_none is)))
         by (Some v) is = old_more c (old_stands es c v is (All-contains (IsSame (content es)) u.columns c same has))
 
-follows : (shape : Shape) (room : ℕ) (es : List Entry) (u : UploadData) (d : Result (List Column) BookFault) → decide shape room (records es) u ≡ d → Follows shape room (records es) u d
+follows : (shape : Shape) (room : ℕ) (es : List Entry) (u : UploadData) (d : Result (List Column) BookFault) → decide shape room (records es) u ≡ d
+    → Follows shape room (records es) u d
 follows shape room es u d is = subst (Follows shape room (records es) u) is (outcomes.law shape room (records es) u)
 
 -- all columns of an upload that was stored stand in the list then
-pub stored_stands : (shape : Shape) (room pass : ℕ) (u : UploadData) (es : List Entry) → HasNewBy shape room pass u es → StandsIn u (es ++ stored_entry pass es u ∷ [])
+pub stored_stands : (shape : Shape) (room pass : ℕ) (u : UploadData) (es : List Entry) → HasNewBy shape room pass u es
+    → StandsIn u (es ++ stored_entry pass es u ∷ [])
 stored_stands shape room pass u es new =
     stands es (stored_entry pass es u ∷ []) u (fits (new_columns (content es) u.columns) refl)
     (λ c has. subst (λ (cs : List Column). Contains cs c) (sym (append-nil (new_columns (content es) u.columns))) has)

@@ -1,17 +1,16 @@
 -- One delivery, by what the book answers.
-use Rattle.std.proofs.Common.{◌≡◌, ◌≢◌, ◌⊎◌, inl, inr, ℕ, zero, suc, ◌+◌, ◌<◌, ◌≤◌, ◌==◌, ◌&&◌, Bool, true, false, not, cond, List, [], ◌∷◌, ◌++◌, map, length, set, get_or, refl, sym, ap, subst, Result, Ok, Err, OnOk, ◌∙◌, arith, append-nil, append_assoc, length-append, eq-eqb, lt-ltb, ltb-true}
-use Rattle.std.specs.Prelude.{All, filter, nat_lt, IsErrAnd}
+use Rattle.std.proofs.Common.{◌≡◌, inl, inr, ℕ, zero, suc, ◌+◌, ◌<◌, ◌≤◌, ◌==◌, Bool, true, false, cond, List, [], ◌∷◌, ◌++◌, length, set, get_or, refl, sym, ap, subst, Result, Ok, Err, OnOk, ◌∙◌, arith, append-nil, append_assoc, eq-eqb}
+use Rattle.std.specs.Prelude.{IsErrAnd}
 use Rattle.std.specs.List.{count_by}
-use Rattle.std.proofs.lemmas.List.{map-set, set-get_or, get_or-map, append_cancel_left}
+use Rattle.std.proofs.lemmas.List.{map-set, set-get_or, append_cancel_left}
 use Rattle.std.proofs.lemmas.List.Sums.{get_or-le-sum_by}
 use Rattle.std.proofs.lemmas.List.Elements.{All-nil, All-cons, filter-append}
-use mathlib.Core.List.{IsPrefix}
-use Rattle.sketchlet_wire.specs.Uploads.{UploadData, IsUpload}
+use Rattle.sketchlet_wire.specs.Uploads.{UploadData}
 use Rattle.uploader_core.specs.declared.state.SeqState.{SeqState}
 use Rattle.uploader_core.specs.declared.state.SeqState.TheVariants as states
 use Rattle.uploader_core.specs.States.{is_acknowledged, state_at, acknowledged, refused}
 use Rattle.link_deliveries.specs.Waiting.{is_refused, refusals}
-use Rattle.link_deliveries.specs.Deliveries.{Delivery, delivery, acknowledge, acknowledge_one}
+use Rattle.link_deliveries.specs.Deliveries.{Delivery, delivery, acknowledge}
 use Rattle.column_book.specs.declared.entry.Entry.{Entry}
 use Rattle.book_journal.specs.declared.applied.Applied.{Applied}
 use Rattle.book_journal.specs.declared.applied.Applied.TheVariants.{Stored, Known}
@@ -22,16 +21,15 @@ use Rattle.upload_frame.specs.declared.reply.RefusedWhy.TheVariants as why
 use Rattle.upload_frame.specs.declared.reply.Reply.TheVariants.{Acknowledged, Refused}
 use Rattle.lg_model.specs.Placing.{Shape}
 use Rattle.column_book.specs.Applying.{stored_entry}
-use Rattle.shared_book.specs.Passes.{HasNewBy}
+use Rattle.shared_book.specs.Passes.{HasNewBy, Serves}
 use Rattle.upload_world.specs.Pumps.{acked_at, upload_at, StandsIn}
 use Rattle.uploader_core.specs.Uploader.{states_after}
 use Rattle.lock_rule.specs.declared.view.View.{View}
 use Rattle.lock_rule.specs.Views.{of}
-use Rattle.shared_book.specs.Passes.{Serves}
 use Rattle.upload_world.proofs.Contents.{stored_stands, known_stands}
 use Rattle.upload_world.specs.declared.fault.WorkFault.{WorkFault}
 use Rattle.upload_world.specs.declared.fault.WorkFault.TheVariants as work
-use Rattle.upload_world.specs.Pumping.{Along, acks, answered, outcome_of, IsMine, Ran, IsCalled, IsRefusing, LastCall, Stopped, Went, Outcome}
+use Rattle.upload_world.specs.Pumping.{Along, acks, answered, outcome_of, IsMine, Ran, IsRefusing, Stopped, Outcome}
 use Rattle.upload_world.proofs.Chains.{along_append, ran_none}
 use Rattle.upload_world.proofs.Keeping.{acked_refused}
 
@@ -85,7 +83,8 @@ others n P start (e ∷ es) none =
 
 pub none_between : (n : ℕ) (seen more list : List Entry) → seen ++ more ≡ list → of n list ≡ of n seen → of n more ≡ []
 none_between n seen more list is same =
-    append_cancel_left (of n seen) (of n more) [] (sym (filter-append (λ (e : Entry). e.pass == n) seen more) ∙ (ap (of n) is ∙ (same ∙ sym (append-nil (of n seen)))))
+    append_cancel_left (of n seen) (of n more) []
+    (sym (filter-append (λ (e : Entry). e.pass == n) seen more) ∙ (ap (of n) is ∙ (same ∙ sym (append-nil (of n seen)))))
 
 module _ (shape : Shape) (room : ℕ) (ups : List UploadData) (own : ℕ) (ss : List SeqState) (q : ℕ) (heard : Bool) (v w : View) where
   -- what is known of the upload and the states
@@ -102,7 +101,8 @@ module _ (shape : Shape) (room : ℕ) (ups : List UploadData) (own : ℕ) (ss : 
   abbrev d : Delivery
   d = delivery q heard
 
-  ok_states : (known : Bool) → Ready → cond heard (states_after own ss (Acknowledged (upload_at ups q).host (upload_at ups q).seq known)) ss ≡ acknowledge ss (d ∷ [])
+  ok_states : (known : Bool) → Ready → cond heard (states_after own ss (Acknowledged (upload_at ups q).host (upload_at ups q).seq known)) ss
+      ≡ acknowledge ss (d ∷ [])
   ok_states known r = ap (λ (l : List SeqState). cond heard l ss)
       (acknowledges own ss (upload_at ups q).host (upload_at ups q).seq q known r.none r.host r.seq (let e = r.each in let s = r.short in omega arith))
 
@@ -124,13 +124,24 @@ module _ (shape : Shape) (room : ℕ) (ups : List UploadData) (own : ℕ) (ss : 
       let e = stored_entry v.number s.list u in
       let all : s.list ++ e ∷ [] ≡ v.seen ++ (more ++ e ∷ []) = ap (λ (l : List Entry). l ++ e ∷ []) (sym front.1) ∙ append_assoc v.seen more (e ∷ []) in
       let right : HasNewBy shape room v.number u s.list = s.right.0 in
-      let mine : IsMine shape room ups (d ∷ []) v.number s.list e = record { earlier = []; own = d; later = []; place = refl; short = r.short; seq = r.seq; is = refl; right = right; known = All-nil (λ (x : Delivery). StandsIn (upload_at ups x.seq) s.list) } in
+      let mine : IsMine shape room ups (d ∷ []) v.number s.list e = record {
+        earlier = [];
+        own = d;
+        later = [];
+        place = refl;
+        short = r.short;
+        seq = r.seq;
+        is = refl;
+        right = right;
+        known = All-nil (λ (x : Delivery). StandsIn (upload_at ups x.seq) s.list);
+      } in
       record {
         more = more ++ e ∷ [];
         view = s.after ∙ ap (λ (l : List Entry). record v { seen = l; begun = v.begun + 1 }) all;
         short = All-cons (λ (x : Delivery). x.seq < length ups) d [] r.short (All-nil (λ (x : Delivery). x.seq < length ups));
         kept = All-cons (λ (x : Delivery). StandsIn (upload_at ups x.seq) (v.seen ++ (more ++ e ∷ []))) d []
-            (subst (StandsIn u) all (stored_stands shape room v.number u s.list right)) (All-nil (λ (x : Delivery). StandsIn (upload_at ups x.seq) (v.seen ++ (more ++ e ∷ []))));
+            (subst (StandsIn u) all (stored_stands shape room v.number u s.list right))
+            (All-nil (λ (x : Delivery). StandsIn (upload_at ups x.seq) (v.seen ++ (more ++ e ∷ []))));
         mine = along_append (λ before x. x.pass ≡ v.number → IsMine shape room ups (d ∷ []) v.number before x) v.seen more (e ∷ [])
             (others v.number (IsMine shape room ups (d ∷ []) v.number) v.seen more (none_between v.number v.seen more s.list front.1 s.mine))
             (λ is. subst (λ l. IsMine shape room ups (d ∷ []) v.number l e) (sym front.1) mine, tt);
@@ -147,7 +158,8 @@ module _ (shape : Shape) (room : ℕ) (ups : List UploadData) (own : ℕ) (ss : 
         view = s.after ∙ ap (λ (l : List Entry). record v { seen = l; begun = v.begun + 1 }) (sym front.1);
         short = All-cons (λ (x : Delivery). x.seq < length ups) d [] r.short (All-nil (λ (x : Delivery). x.seq < length ups));
         kept = All-cons (λ (x : Delivery). StandsIn (upload_at ups x.seq) (v.seen ++ more)) d []
-            (subst (StandsIn u) (sym front.1) (known_stands shape room u s.list s.right)) (All-nil (λ (x : Delivery). StandsIn (upload_at ups x.seq) (v.seen ++ more)));
+            (subst (StandsIn u) (sym front.1) (known_stands shape room u s.list s.right))
+            (All-nil (λ (x : Delivery). StandsIn (upload_at ups x.seq) (v.seen ++ more)));
         mine = others v.number (IsMine shape room ups (d ∷ []) v.number) v.seen more (none_between v.number v.seen more s.list front.1 s.mine);
         still = λ m. absurd (cc (s.marked m).1);
       }
@@ -171,14 +183,20 @@ module _ (shape : Shape) (room : ℕ) (ups : List UploadData) (own : ℕ) (ss : 
     none = λ m. absurd m;
   }
 
-  pub delivered : (answer : Result Applied ApplyFault) → Ready → Serves shape room (upload_at ups q) v w answer → Outcome shape room ups (d ∷ []) v w ss (states_then answer) (outcome_of q answer)
+  pub delivered : (answer : Result Applied ApplyFault) → Ready → Serves shape room (upload_at ups q) v w answer
+      → Outcome shape room ups (d ∷ []) v w ss (states_then answer) (outcome_of q answer)
   delivered (Ok (Stored p)) r s = record { ran = stored p r s; acked = ap acks (ok_states false r) }
   delivered (Ok Known) r s = record { ran = known r s; acked = ap acks (ok_states true r) }
-  delivered (Err (faults.Broken n)) r s = refuses (faults.Broken n) _ r tt s (acks_if _ (refusal_acks own ss (upload_at ups q).host (upload_at ups q).seq why.Closed))
-  delivered (Err (faults.WrongShape kept came)) r s = refuses (faults.WrongShape kept came) _ r tt s (acks_if _ (refusal_acks own ss (upload_at ups q).host (upload_at ups q).seq why.Shape))
-  delivered (Err (faults.Conflict key kept came)) r s = refuses (faults.Conflict key kept came) _ r tt s (acks_if _ (refusal_acks own ss (upload_at ups q).host (upload_at ups q).seq (why.Conflict key)))
-  delivered (Err (faults.Full held more)) r s = refuses (faults.Full held more) _ r tt s (acks_if _ (refusal_acks own ss (upload_at ups q).host (upload_at ups q).seq why.Full))
-  delivered (Err faults.DiskFault) r s = refuses faults.DiskFault _ r tt s (acks_if _ (refusal_acks own ss (upload_at ups q).host (upload_at ups q).seq why.Closed))
+  delivered (Err (faults.Broken n)) r s =
+      refuses (faults.Broken n) _ r tt s (acks_if _ (refusal_acks own ss (upload_at ups q).host (upload_at ups q).seq why.Closed))
+  delivered (Err (faults.WrongShape kept came)) r s =
+      refuses (faults.WrongShape kept came) _ r tt s (acks_if _ (refusal_acks own ss (upload_at ups q).host (upload_at ups q).seq why.Shape))
+  delivered (Err (faults.Conflict key kept came)) r s =
+      refuses (faults.Conflict key kept came) _ r tt s (acks_if _ (refusal_acks own ss (upload_at ups q).host (upload_at ups q).seq (why.Conflict key)))
+  delivered (Err (faults.Full held more)) r s =
+      refuses (faults.Full held more) _ r tt s (acks_if _ (refusal_acks own ss (upload_at ups q).host (upload_at ups q).seq why.Full))
+  delivered (Err faults.DiskFault) r s =
+      refuses faults.DiskFault _ r tt s (acks_if _ (refusal_acks own ss (upload_at ups q).host (upload_at ups q).seq why.Closed))
   delivered (Err faults.Memory) r s = record {
     made = [];
     left = d ∷ [];
@@ -191,22 +209,28 @@ module _ (shape : Shape) (room : ℕ) (ups : List UploadData) (own : ℕ) (ss : 
   }
 
   -- the same, of what a call has in hand
-  pub finish : (u : UploadData) (ts : List SeqState) (answer : Result Applied ApplyFault) (result : Result (Unit {0}) WorkFault) → Ready → u ≡ upload_at ups q → Serves shape room u v w answer
+  pub finish : (u : UploadData) (ts : List SeqState) (answer : Result Applied ApplyFault) (result : Result (Unit {0}) WorkFault) → Ready → u ≡ upload_at ups q
+      → Serves shape room u v w answer
       → ts ≡ cond heard (answered own ss u answer) ss → result ≡ outcome_of q answer → Outcome shape room ups (d ∷ []) v w ss ts result
   finish u ts answer result r is s states_are result_is =
       let serves = subst (λ x. Serves shape room x v w answer) is s in
       let after : ts ≡ states_then answer = states_are ∙ ap (λ (x : UploadData). cond heard (answered own ss x answer) ss) is in
-      subst (λ x. Outcome shape room ups (d ∷ []) v w ss ts x) (sym result_is) (subst (λ x. Outcome shape room ups (d ∷ []) v w ss x (outcome_of q answer)) (sym after) (delivered answer r serves))
+      subst (λ x. Outcome shape room ups (d ∷ []) v w ss ts x) (sym result_is)
+      (subst (λ x. Outcome shape room ups (d ∷ []) v w ss x (outcome_of q answer)) (sym after) (delivered answer r serves))
 
-  pub finish_states : (u : UploadData) (ts : List SeqState) (answer : Result Applied ApplyFault) (result : Result (Unit {0}) WorkFault) → Ready → u ≡ upload_at ups q
+  pub finish_states : (u : UploadData) (ts : List SeqState) (answer : Result Applied ApplyFault) (result : Result (Unit {0}) WorkFault) → Ready
+      → u ≡ upload_at ups q
       → ts ≡ cond heard (answered own ss u answer) ss → result ≡ outcome_of q answer → OnOk result (ts ≡ acknowledge ss (d ∷ []))
   finish_states u ts answer result r is states_are result_is =
       let after : ts ≡ states_then answer = states_are ∙ ap (λ (x : UploadData). cond heard (answered own ss x answer) ss) is in
-      subst (λ x. OnOk x (ts ≡ acknowledge ss (d ∷ []))) (sym result_is) (subst (λ x. OnOk (outcome_of q answer) (x ≡ acknowledge ss (d ∷ []))) (sym after) (delivered_states answer r))
+      subst (λ x. OnOk x (ts ≡ acknowledge ss (d ∷ []))) (sym result_is)
+      (subst (λ x. OnOk (outcome_of q answer) (x ≡ acknowledge ss (d ∷ []))) (sym after) (delivered_states answer r))
 
 -- want of memory before any call
-pub no_memory : {A : Type 0} (shape : Shape) (room : ℕ) (ups : List UploadData) (ds : List Delivery) (v : View) (ss ts : List SeqState) (result : Result A WorkFault) → IsErrAnd result (λ e. e ≡ work.Memory) → acks ts ≡ acks ss → refusals ts ≡ 0
+pub no_memory : {A : Type 0} (shape : Shape) (room : ℕ) (ups : List UploadData) (ds : List Delivery) (v : View) (ss ts : List SeqState)
+    (result : Result A WorkFault) → IsErrAnd result (λ e. e ≡ work.Memory) → acks ts ≡ acks ss → refusals ts ≡ 0
     → Outcome shape room ups ds v v ss ts result
 no_memory shape room ups ds v ss ts (Ok a) is same none = absurd is
 no_memory shape room ups ds v ss ts (Err (work.Refused q f)) is same none = absurd cc
-no_memory shape room ups ds v ss ts (Err work.Memory) is same none = record { made = []; left = ds; split = refl; between = v; ran = ran_none shape room ups v; last = inl refl; acked = same; none = λ m. none }
+no_memory shape room ups ds v ss ts (Err work.Memory) is same none =
+    record { made = []; left = ds; split = refl; between = v; ran = ran_none shape room ups v; last = inl refl; acked = same; none = λ m. none }

@@ -1,46 +1,41 @@
 -- From what the calls did to what the pump promises.
-use Rattle.std.proofs.Common.{◌≡◌, ◌≢◌, ◌⊎◌, inl, inr, ℕ, zero, suc, ◌+◌, ◌-◌, ◌<◌, ◌≤◌, ◌==◌, Bool, true, false, not, cond, List, [], ◌∷◌, ◌++◌, map, length, take, get_or, refl, sym, ap, subst, Option, Some, None, Result, Ok, Err, OnOk, ◌∙◌, arith, append-nil, append_assoc, length-append, eq-eqb, slice_get}
-use Rattle.std.specs.Prelude.{All, Contains}
+use Rattle.std.proofs.Common.{◌≡◌, ◌≢◌, ◌⊎◌, inl, inr, ℕ, zero, suc, ◌+◌, ◌-◌, ◌<◌, ◌≤◌, ◌==◌, Bool, true, false, not, cond, List, [], ◌∷◌, ◌++◌, map, length, take, get_or, refl, sym, ap, subst, Some, Result, Ok, Err, OnOk, ◌∙◌, arith, append-nil, append_assoc, length-append, eq-eqb, slice_get}
+use Rattle.std.specs.Prelude.{All}
 use Rattle.std.proofs.lemmas.List.{length-map, map-append, take-append-le}
 use Rattle.std.proofs.lemmas.List.Sums.{take_while-cons}
-use Rattle.std.proofs.lemmas.List.Elements.{All-nil, All-cons, All-head, All-tail, All-append, All-weaker, All-map}
-use mathlib.Core.List.{IsPrefix}
+use Rattle.std.proofs.lemmas.List.Elements.{All-nil, All-cons, All-head, All-tail, All-weaker, All-map}
 use Rattle.std.proofs.lemmas.Bool.{cases_lt}
 use Rattle.lg_model.specs.declared.scenario.Letter.{Letter}
 use Rattle.lg_model.specs.declared.scenario.Letter.TheVariants.{LoseReply}
-use Rattle.lg_model.specs.Columns.{Column}
 use Rattle.sketchlet_wire.specs.Uploads.{UploadData}
 use Rattle.uploader_core.specs.declared.state.SeqState.{SeqState}
-use Rattle.uploader_core.specs.declared.state.SeqState.TheVariants.{Idle}
-use Rattle.uploader_core.specs.States.{is_acknowledged}
 use Rattle.link_deliveries.specs.Waiting.{all_acknowledged, refusals as none_of}
 use Rattle.link_deliveries.specs.Deliveries.{Delivery, acknowledge}
 use Rattle.link_deliveries.proofs.Acked.{hears, acked_from, IsHeard}
 use Rattle.column_book.specs.declared.entry.Entry.{Entry}
 use Rattle.lock_rule.specs.declared.view.Mark.{Mark}
 use Rattle.lock_rule.specs.declared.view.Mark.TheVariants as marks
-use Rattle.book_journal.specs.declared.applied.Applied.{Applied}
 use Rattle.book_journal.specs.declared.applied.ApplyFault.{ApplyFault}
 use Rattle.book_journal.specs.declared.applied.ApplyFault.TheVariants as faults
 use Rattle.lg_model.specs.Placing.{Shape}
 use Rattle.column_book.specs.Applying.{stored_entry, decide}
 use Rattle.column_book.specs.Entries.{records}
 use Rattle.column_book.specs.declared.fault.BookFault.TheVariants as book
-use Rattle.shared_book.specs.Passes.{HasNewBy}
+use Rattle.shared_book.specs.Passes.{HasNewBy, Serves, mark_for}
 use Rattle.lock_rule.specs.declared.view.View.{View}
 use Rattle.lock_rule.specs.Views.{Marked, of}
 use Rattle.lock_rule.specs.Plays.{set_mark}
-use Rattle.shared_book.specs.Passes.{Serves, mark_for}
 use Rattle.upload_world.proofs.Contents.{stands_more, stored_apart}
 use Rattle.upload_world.specs.declared.fault.WorkFault.{WorkFault}
 use Rattle.upload_world.specs.declared.fault.WorkFault.TheVariants as work
-use Rattle.upload_world.specs.Pumping.{Along, acks, IsMine, Ran, IsCalled, IsRefusing, IsRefusedAt, LastCall, Stopped, Went, Outcome}
+use Rattle.upload_world.specs.Pumping.{Along, acks, IsMine, Ran, IsRefusing, IsRefusedAt, Outcome}
 use Rattle.upload_world.specs.Pumps.{upload_at, StandsIn, acked_at, before_first, AckedStand, IsOwn, OwnFrom, CarriesOwn, IsApart, IsOfCall, IsCause, IsFirstRefused, IsStarved, Stops, Pumps}
 use Rattle.upload_world.proofs.Chains.{along_append}
 use Rattle.upload_world.proofs.Delivered.{others, none_between, get_acks}
 
 -- by place, what holds along a list
-along_get : {A : Type 0} (P : List A → A → Type 0) (before xs : List A) (i : ℕ) (x : A) → Along P before xs → slice_get xs i ≡ Some x → P (before ++ take i xs) x
+along_get : {A : Type 0} (P : List A → A → Type 0) (before xs : List A) (i : ℕ) (x : A) → Along P before xs → slice_get xs i ≡ Some x
+    → P (before ++ take i xs) x
 along_get P before [] i x a is = absurd cc
 along_get P before (y ∷ xs) zero x a is =
     let same : y ≡ x = cc in
@@ -61,7 +56,8 @@ get_behind (x ∷ xs) ys (suc i) far = let e : i - length xs ≡ suc i - suc (le
 take_behind : {A : Type 0} (xs ys : List A) (i : ℕ) → length xs ≤ i → take i (xs ++ ys) ≡ xs ++ take (i - length xs) ys
 take_behind [] ys i far = ap (λ n. take n ys) (omega arith)
 take_behind (x ∷ xs) ys zero far = absurd (omega arith)
-take_behind (x ∷ xs) ys (suc i) far = let e : i - length xs ≡ suc i - suc (length xs) = omega arith in ap (λ l. x ∷ l) (take_behind xs ys i (omega arith) ∙ ap (λ n. xs ++ take n ys) e)
+take_behind (x ∷ xs) ys (suc i) far = let e : i - length xs ≡ suc i - suc (length xs) = omega arith in
+    ap (λ l. x ∷ l) (take_behind xs ys i (omega arith) ∙ ap (λ n. xs ++ take n ys) e)
 
 -- what stands before the first q stands before any q
 before_front : (P : ℕ → Type 0) (q : ℕ) (xs ys : List ℕ) → All P xs → All P (before_first q (xs ++ q ∷ ys))
@@ -118,20 +114,23 @@ module _ (shape : Shape) (room : ℕ) (ups : List UploadData) where
       }
 
   -- a call more, which added nothing of ours
-  grew_last : (made : List Delivery) (v b w : View) (u : UploadData) (f : ApplyFault) → Ran shape room ups made v b → Serves shape room u b w (Err f) → Grew made v w
+  grew_last : (made : List Delivery) (v b w : View) (u : UploadData) (f : ApplyFault) → Ran shape room ups made v b → Serves shape room u b w (Err f)
+      → Grew made v w
   grew_last made v b w u f r s =
       let front = s.begins in
       let bseen : b.seen ≡ v.seen ++ r.more = ap (λ (y : View). y.seen) r.view in
       let number : b.number ≡ v.number = ap (λ (y : View). y.number) r.view in
       let list : w.seen ≡ s.list = ap (λ (y : View). y.seen) s.after in
-      let all : w.seen ≡ v.seen ++ (r.more ++ front.0) = list ∙ (sym front.1 ∙ (ap (λ (l : List Entry). l ++ front.0) bseen ∙ append_assoc v.seen r.more front.0)) in
+      let all : w.seen ≡ v.seen ++ (r.more ++ front.0)
+      = list ∙ (sym front.1 ∙ (ap (λ (l : List Entry). l ++ front.0) bseen ∙ append_assoc v.seen r.more front.0)) in
       let none : of v.number front.0 ≡ [] = subst (λ n. of n front.0 ≡ []) number (none_between b.number b.seen front.0 s.list front.1 s.mine) in
       record {
         added = r.more ++ front.0;
         seen = all;
         short = r.short;
         kept = All-weaker (λ (d : Delivery). StandsIn (upload_at ups d.seq) (v.seen ++ r.more)) (λ (d : Delivery). StandsIn (upload_at ups d.seq) w.seen)
-            (λ d k. subst (StandsIn (upload_at ups d.seq)) (append_assoc v.seen r.more front.0 ∙ sym all) (stands_more (upload_at ups d.seq) (v.seen ++ r.more) front.0 k)) made r.kept;
+            (λ d k. subst (StandsIn (upload_at ups d.seq)) (append_assoc v.seen r.more front.0 ∙ sym all)
+            (stands_more (upload_at ups d.seq) (v.seen ++ r.more) front.0 k)) made r.kept;
         mine = along_append (λ before e. e.pass ≡ v.number → IsMine shape room ups made v.number before e) v.seen r.more front.0 r.mine
             (others v.number (IsMine shape room ups made v.number) (v.seen ++ r.more) front.0 none);
         number = ap (λ (y : View). y.number) s.after ∙ number;
@@ -154,8 +153,10 @@ module _ (shape : Shape) (room : ℕ) (ups : List UploadData) where
       (ap (λ (y : View). y.mark) r.view, ap (λ (y : View). y.seen) r.view ∙ (ap (λ (l : List Entry). v.seen ++ l) (r.still m).1 ∙ append-nil v.seen))
 
   -- before the first delivery of an entry's upload no upload has its columns
-  apart_of : (ds earlier later : List Delivery) (own : Delivery) (pass : ℕ) (before : List Entry) (e : Entry) → ds ≡ earlier ++ own ∷ later → All (λ (d : Delivery). StandsIn (upload_at ups d.seq) before) earlier
-      → e.stored.seq ≡ own.seq → e ≡ stored_entry pass before (upload_at ups own.seq) → All (λ (q : ℕ). IsApart e (upload_at ups q)) (before_first e.stored.seq (numbers ds))
+  apart_of : (ds earlier later : List Delivery) (own : Delivery) (pass : ℕ) (before : List Entry) (e : Entry) → ds ≡ earlier ++ own ∷ later
+      → All (λ (d : Delivery). StandsIn (upload_at ups d.seq) before) earlier
+      → e.stored.seq ≡ own.seq → e ≡ stored_entry pass before (upload_at ups own.seq)
+      → All (λ (q : ℕ). IsApart e (upload_at ups q)) (before_first e.stored.seq (numbers ds))
   apart_of ds earlier later own pass before e place kept seq is =
       let P : ℕ → Type 0 = λ n. IsApart e (upload_at ups n) in
       let whole : numbers ds ≡ numbers earlier ++ own.seq ∷ numbers later = ap numbers place ∙ map-append (λ (d : Delivery). d.seq) earlier (own ∷ later) in
@@ -164,10 +165,12 @@ module _ (shape : Shape) (room : ℕ) (ups : List UploadData) where
       (before_front P own.seq (numbers earlier) (numbers later)
       (All-map P (λ (d : Delivery). d.seq) earlier
       (All-weaker (λ (d : Delivery). StandsIn (upload_at ups d.seq) before) (λ (d : Delivery). P d.seq)
-      (λ d k. subst (λ (x : Entry). IsApart x (upload_at ups d.seq)) (sym is) (stored_apart pass before (upload_at ups own.seq) (upload_at ups d.seq) k)) earlier kept))))
+      (λ d k. subst (λ (x : Entry). IsApart x (upload_at ups d.seq)) (sym is) (stored_apart pass before (upload_at ups own.seq) (upload_at ups d.seq) k))
+      earlier kept))))
 
   -- an entry that an application of the upload of number q stores
-  own_of : (pass : ℕ) (before : List Entry) (e : Entry) (q : ℕ) → q < length ups → e.stored.seq ≡ q → e ≡ stored_entry pass before (upload_at ups q) → HasNewBy shape room pass (upload_at ups q) before
+  own_of : (pass : ℕ) (before : List Entry) (e : Entry) (q : ℕ) → q < length ups → e.stored.seq ≡ q → e ≡ stored_entry pass before (upload_at ups q)
+      → HasNewBy shape room pass (upload_at ups q) before
       → IsOwn shape room ups pass before e
   own_of pass before e q short seq is right = record {
     sent = subst (λ n. n < length ups) (sym seq) short;
@@ -181,17 +184,21 @@ module _ (shape : Shape) (room : ℕ) (ups : List UploadData) where
   own_mine : (made : List Delivery) (pass : ℕ) (before : List Entry) (e : Entry) → IsMine shape room ups made pass before e → IsOwn shape room ups pass before e
   own_mine made pass before e m = own_of pass before e m.own.seq m.short (seq_of made pass before e m) m.is m.right
 
-  of_call : (ds made left : List Delivery) (pass : ℕ) (before : List Entry) (e : Entry) → ds ≡ made ++ left → IsMine shape room ups made pass before e → IsOfCall shape room ups (numbers ds) pass before e
+  of_call : (ds made left : List Delivery) (pass : ℕ) (before : List Entry) (e : Entry) → ds ≡ made ++ left → IsMine shape room ups made pass before e
+      → IsOfCall shape room ups (numbers ds) pass before e
   of_call ds made left pass before e split m = record {
     own = own_mine made pass before e m;
-    first = apart_of ds m.earlier (m.later ++ left) m.own pass before e (split ∙ (ap (λ (l : List Delivery). l ++ left) m.place ∙ append_assoc m.earlier (m.own ∷ m.later) left)) m.known
+    first = apart_of ds m.earlier (m.later ++ left) m.own pass before e
+        (split ∙ (ap (λ (l : List Delivery). l ++ left) m.place ∙ append_assoc m.earlier (m.own ∷ m.later) left)) m.known
         (seq_of made pass before e m) m.is;
   }
 
   -- an entry at a place past what was seen
-  mine_at : (made : List Delivery) (v w : View) → Grew made v w → (i : ℕ) (e : Entry) → length v.seen ≤ i → slice_get w.seen i ≡ Some e → e.pass ≡ v.number → IsMine shape room ups made v.number (take i w.seen) e
+  mine_at : (made : List Delivery) (v w : View) → Grew made v w → (i : ℕ) (e : Entry) → length v.seen ≤ i → slice_get w.seen i ≡ Some e → e.pass ≡ v.number
+      → IsMine shape room ups made v.number (take i w.seen) e
   mine_at made v w g i e far is own =
-      let here : slice_get g.added (i - length v.seen) ≡ Some e = sym (get_behind v.seen g.added i far) ∙ (ap (λ (l : List Entry). slice_get l i) (sym g.seen) ∙ is) in
+      let here : slice_get g.added (i - length v.seen) ≡ Some e
+      = sym (get_behind v.seen g.added i far) ∙ (ap (λ (l : List Entry). slice_get l i) (sym g.seen) ∙ is) in
       let front : take i w.seen ≡ v.seen ++ take (i - length v.seen) g.added = ap (take i) g.seen ∙ take_behind v.seen g.added i far in
       subst (λ l. IsMine shape room ups made v.number l e) (sym front)
       (along_get (λ before x. x.pass ≡ v.number → IsMine shape room ups made v.number before x) v.seen g.added (i - length v.seen) e g.mine here own)
@@ -206,30 +213,36 @@ module _ (shape : Shape) (room : ℕ) (ups : List UploadData) where
         own_mine made v.number (take i w.seen) e (mine_at made v w g i e past is own)
   ]
 
-  acked_kept : (made : List Delivery) (v w : View) (ss ts : List SeqState) → Grew made v w → acks ts ≡ acks (acknowledge ss made) → AckedStand shape room ups ss v.seen → AckedStand shape room ups ts w.seen
+  acked_kept : (made : List Delivery) (v w : View) (ss ts : List SeqState) → Grew made v w → acks ts ≡ acks (acknowledge ss made)
+      → AckedStand shape room ups ss v.seen → AckedStand shape room ups ts w.seen
   acked_kept made v w ss ts g same old = λ q short is.
       let P : ℕ → Type 0 = λ n. n < length ups → StandsIn (upload_at ups n) w.seen in
       acked_from P ss made q (All-weaker (λ (d : Delivery). StandsIn (upload_at ups d.seq) w.seen) (λ (d : Delivery). P d.seq) (λ d k _. k) made g.kept)
       (λ was _. subst (StandsIn (upload_at ups q)) (sym g.seen) (stands_more (upload_at ups q) v.seen g.added (old q short was)))
       (sym (same_acked (acknowledge ss made) ts q same) ∙ is) short
 
-  answered : (ds made left : List Delivery) (v w : View) (ss ts : List SeqState) → ds ≡ made ++ left → length ss ≡ length ups → Grew made v w → acks ts ≡ acks (acknowledge ss made) → All IsHeard ds
+  answered : (ds made left : List Delivery) (v w : View) (ss ts : List SeqState) → ds ≡ made ++ left → length ss ≡ length ups → Grew made v w
+      → acks ts ≡ acks (acknowledge ss made) → All IsHeard ds
       → (i : ℕ) (e : Entry) → length v.seen ≤ i → slice_get w.seen i ≡ Some e → e.pass ≡ v.number → acked_at ts e.stored.seq ≡ true
   answered ds made left v w ss ts split each g same heard i e far is own =
       let m = mine_at made v w g i e far is own in
-      let whole : ds ≡ m.earlier ++ m.own ∷ (m.later ++ left) = split ∙ (ap (λ (l : List Delivery). l ++ left) m.place ∙ append_assoc m.earlier (m.own ∷ m.later) left) in
+      let whole : ds ≡ m.earlier ++ m.own ∷ (m.later ++ left)
+      = split ∙ (ap (λ (l : List Delivery). l ++ left) m.place ∙ append_assoc m.earlier (m.own ∷ m.later) left) in
       let short = m.short in
       let its : m.own.heard ≡ true = here m.earlier (m.later ++ left) m.own (subst (All IsHeard) whole heard) in
       let seq = seq_of made v.number (take i w.seen) e m in
-      ap (acked_at ts) seq ∙ (same_acked (acknowledge ss made) ts m.own.seq same ∙ (ap (λ (l : List Delivery). acked_at (acknowledge ss l) m.own.seq) m.place ∙ hears ss m.earlier m.later m.own (omega arith) its))
+      ap (acked_at ts) seq ∙ (same_acked (acknowledge ss made) ts m.own.seq same
+      ∙ (ap (λ (l : List Delivery). acked_at (acknowledge ss l) m.own.seq) m.place ∙ hears ss m.earlier m.later m.own (omega arith) its))
     where
       here : (earlier later : List Delivery) (d : Delivery) → All IsHeard (earlier ++ d ∷ later) → d.heard ≡ true
       here [] later d all = All-head IsHeard d later all
       here (x ∷ earlier) later d all = here earlier later d (All-tail IsHeard x (earlier ++ d ∷ later) all)
 
   -- what a mark that was set carries
-  set_by : (ds made later : List Delivery) (first : Delivery) (v b w : View) (f : ApplyFault) → ds ≡ made ++ first ∷ later → first.seq < length ups → (upload_at ups first.seq).seq ≡ first.seq
-      → Ran shape room ups made v b → Serves shape room (upload_at ups first.seq) b w (Err f) → (Marked v.mark → ⊥) → (e : Entry) → w.mark ≡ marks.Carries e → IsOfCall shape room ups (numbers ds) v.number w.seen e
+  set_by : (ds made later : List Delivery) (first : Delivery) (v b w : View) (f : ApplyFault) → ds ≡ made ++ first ∷ later → first.seq < length ups
+      → (upload_at ups first.seq).seq ≡ first.seq
+      → Ran shape room ups made v b → Serves shape room (upload_at ups first.seq) b w (Err f) → (Marked v.mark → ⊥) → (e : Entry) → w.mark ≡ marks.Carries e
+      → IsOfCall shape room ups (numbers ds) v.number w.seen e
   set_by ds made later first v b w (faults.Broken r) split short seq ran s clear e is =
       let old : b.mark ≡ v.mark = ap (λ (y : View). y.mark) ran.view in
       let now : set_mark b.mark ≡ marks.Carries e = sym (ap (λ (y : View). y.mark) s.after) ∙ is in
@@ -239,18 +252,24 @@ module _ (shape : Shape) (room : ℕ) (ups : List UploadData) where
       from_seen marks.Clear h = absurd cc
       from_seen marks.Seen h = tt
       from_seen (marks.Carries x) h = tt
-  set_by ds made later first v b w (faults.WrongShape kept came) split short seq ran s clear e is = absurd (clear (carries_marked v.mark e (sym (ap (λ (y : View). y.mark) s.after ∙ ap (λ (y : View). y.mark) ran.view) ∙ is)))
-  set_by ds made later first v b w (faults.Conflict key kept came) split short seq ran s clear e is = absurd (clear (carries_marked v.mark e (sym (ap (λ (y : View). y.mark) s.after ∙ ap (λ (y : View). y.mark) ran.view) ∙ is)))
-  set_by ds made later first v b w (faults.Full held more) split short seq ran s clear e is = absurd (clear (carries_marked v.mark e (sym (ap (λ (y : View). y.mark) s.after ∙ ap (λ (y : View). y.mark) ran.view) ∙ is)))
-  set_by ds made later first v b w faults.Memory split short seq ran s clear e is = absurd (clear (carries_marked v.mark e (sym (ap (λ (y : View). y.mark) s.after ∙ ap (λ (y : View). y.mark) ran.view) ∙ is)))
+  set_by ds made later first v b w (faults.WrongShape kept came) split short seq ran s clear e is =
+      absurd (clear (carries_marked v.mark e (sym (ap (λ (y : View). y.mark) s.after ∙ ap (λ (y : View). y.mark) ran.view) ∙ is)))
+  set_by ds made later first v b w (faults.Conflict key kept came) split short seq ran s clear e is =
+      absurd (clear (carries_marked v.mark e (sym (ap (λ (y : View). y.mark) s.after ∙ ap (λ (y : View). y.mark) ran.view) ∙ is)))
+  set_by ds made later first v b w (faults.Full held more) split short seq ran s clear e is =
+      absurd (clear (carries_marked v.mark e (sym (ap (λ (y : View). y.mark) s.after ∙ ap (λ (y : View). y.mark) ran.view) ∙ is)))
+  set_by ds made later first v b w faults.Memory split short seq ran s clear e is =
+      absurd (clear (carries_marked v.mark e (sym (ap (λ (y : View). y.mark) s.after ∙ ap (λ (y : View). y.mark) ran.view) ∙ is)))
   set_by ds made later first v b w faults.DiskFault split short seq ran s clear e is =
       let number : b.number ≡ v.number = ap (λ (y : View). y.number) ran.view in
       let list : w.seen ≡ s.list = ap (λ (y : View). y.seen) s.after in
       let held : marks.Carries (stored_entry b.number s.list (upload_at ups first.seq)) ≡ marks.Carries e = sym (ap (λ (y : View). y.mark) s.after) ∙ is in
       let same : e ≡ stored_entry v.number w.seen (upload_at ups first.seq)
       = sym (carried (stored_entry b.number s.list (upload_at ups first.seq)) e held)
-      ∙ (ap (λ (n : ℕ). stored_entry n s.list (upload_at ups first.seq)) number ∙ ap (λ (l : List Entry). stored_entry v.number l (upload_at ups first.seq)) (sym list)) in
-      let right = subst (λ n. HasNewBy shape room n (upload_at ups first.seq) w.seen) number (subst (λ l. HasNewBy shape room b.number (upload_at ups first.seq) l) (sym list) s.right) in
+      ∙ (ap (λ (n : ℕ). stored_entry n s.list (upload_at ups first.seq)) number
+      ∙ ap (λ (l : List Entry). stored_entry v.number l (upload_at ups first.seq)) (sym list)) in
+      let right = subst (λ n. HasNewBy shape room n (upload_at ups first.seq) w.seen) number
+      (subst (λ l. HasNewBy shape room b.number (upload_at ups first.seq) l) (sym list) s.right) in
       let its : e.stored.seq ≡ first.seq = ap (λ (x : Entry). x.stored.seq) same ∙ seq in
       let g = grew_last made v b w (upload_at ups first.seq) faults.DiskFault ran s in
       record {
@@ -262,15 +281,20 @@ module _ (shape : Shape) (room : ℕ) (ups : List UploadData) where
       carried x y h = cc
 
   -- the cause of a refusal
-  cause_of : (made : List Delivery) (q : ℕ) (v b w : View) (f : ApplyFault) → IsRefusing f → Ran shape room ups made v b → Serves shape room (upload_at ups q) b w (Err f) → IsCause shape room ups q v w f
-  cause_of made q v b w (faults.WrongShape kept came) is ran s = subst (λ l. decide shape room (records l) (upload_at ups q) ≡ Err (book.WrongShape kept came)) (sym (ap (λ (y : View). y.seen) s.after)) s.right
-  cause_of made q v b w (faults.Conflict key kept came) is ran s = subst (λ l. decide shape room (records l) (upload_at ups q) ≡ Err (book.Conflict key kept came)) (sym (ap (λ (y : View). y.seen) s.after)) s.right
-  cause_of made q v b w (faults.Full held more) is ran s = subst (λ l. decide shape room (records l) (upload_at ups q) ≡ Err (book.Full held more)) (sym (ap (λ (y : View). y.seen) s.after)) s.right
+  cause_of : (made : List Delivery) (q : ℕ) (v b w : View) (f : ApplyFault) → IsRefusing f → Ran shape room ups made v b
+      → Serves shape room (upload_at ups q) b w (Err f) → IsCause shape room ups q v w f
+  cause_of made q v b w (faults.WrongShape kept came) is ran s =
+      subst (λ l. decide shape room (records l) (upload_at ups q) ≡ Err (book.WrongShape kept came)) (sym (ap (λ (y : View). y.seen) s.after)) s.right
+  cause_of made q v b w (faults.Conflict key kept came) is ran s =
+      subst (λ l. decide shape room (records l) (upload_at ups q) ≡ Err (book.Conflict key kept came)) (sym (ap (λ (y : View). y.seen) s.after)) s.right
+  cause_of made q v b w (faults.Full held more) is ran s =
+      subst (λ l. decide shape room (records l) (upload_at ups q) ≡ Err (book.Full held more)) (sym (ap (λ (y : View). y.seen) s.after)) s.right
   cause_of made q v b w faults.Memory is ran s = is
   cause_of made q v b w faults.DiskFault is ran s = (
     λ m. cc (s.marked (subst Marked (sym (ap (λ (y : View). y.mark) ran.view)) m)).1,
     ap (λ (y : View). y.mark) s.after ∙ ap (λ (e : Entry). marks.Carries e)
-        (ap (λ (n : ℕ). stored_entry n s.list (upload_at ups q)) (ap (λ (y : View). y.number) ran.view) ∙ ap (λ (l : List Entry). stored_entry v.number l (upload_at ups q)) (sym (ap (λ (y : View). y.seen) s.after))),
+        (ap (λ (n : ℕ). stored_entry n s.list (upload_at ups q)) (ap (λ (y : View). y.number) ran.view)
+        ∙ ap (λ (l : List Entry). stored_entry v.number l (upload_at ups q)) (sym (ap (λ (y : View). y.seen) s.after))),
   )
   cause_of made q v b w (faults.Broken r) is ran s =
       (subst Marked (sym (ap (λ (y : View). y.mark) s.after)) (now_marked b.mark), s.right ∙ ap length (sym (ap (λ (y : View). y.seen) s.after)))
@@ -281,7 +305,8 @@ module _ (shape : Shape) (room : ℕ) (ups : List UploadData) where
   is_marked (marks.Carries e) = inl tt
 
   -- what a mark carries afterwards, by what it carried and by what was set
-  carried_by : (ds : List ℕ) (v w : View) → w.number ≡ v.number → (Marked v.mark → (w.mark ≡ v.mark) × (w.seen ≡ v.seen)) → ((Marked v.mark → ⊥) → (e : Entry) → w.mark ≡ marks.Carries e → IsOfCall shape room ups ds v.number w.seen e)
+  carried_by : (ds : List ℕ) (v w : View) → w.number ≡ v.number → (Marked v.mark → (w.mark ≡ v.mark) × (w.seen ≡ v.seen))
+      → ((Marked v.mark → ⊥) → (e : Entry) → w.mark ≡ marks.Carries e → IsOfCall shape room ups ds v.number w.seen e)
       → CarriesOwn shape room ups v → CarriesOwn shape room ups w
   carried_by ds v w number marked set old = λ e is. elim (is_marked v.mark) [
     | inl m ↦
@@ -293,12 +318,14 @@ module _ (shape : Shape) (room : ℕ) (ups : List UploadData) where
   same_ran : (made : List Delivery) (v w : View) → Ran shape room ups made v w → w ≡ record v { seen = w.seen; begun = w.begun; mark = w.mark }
   same_ran made v w r = subst (λ (x : View). x ≡ record v { seen = x.seen; begun = x.begun; mark = x.mark }) (sym r.view) refl
 
-  same_call : (made : List Delivery) (v b w : View) (u : UploadData) (f : ApplyFault) → Ran shape room ups made v b → Serves shape room u b w (Err f) → w ≡ record v { seen = w.seen; begun = w.begun; mark = w.mark }
+  same_call : (made : List Delivery) (v b w : View) (u : UploadData) (f : ApplyFault) → Ran shape room ups made v b → Serves shape room u b w (Err f)
+      → w ≡ record v { seen = w.seen; begun = w.begun; mark = w.mark }
   same_call made v b w u f r s = subst (λ (x : View). x ≡ record v { seen = x.seen; begun = x.begun; mark = x.mark })
       (sym (s.after ∙ ap (λ (y : View). record y { seen = s.list; begun = b.begun + 1; mark = mark_for b.number u s.list b.mark (Err f) }) r.view)) refl
 
   -- all of it, of a call that made these deliveries and no more
-  told_ran : {A : Type 0} (r : Result A WorkFault) (ds made left : List Delivery) (ls : List Letter) (v w : View) (ss ts : List SeqState) → ds ≡ made ++ left → length ss ≡ length ups → (All (λ (l : Letter). l ≢ LoseReply) ls → All IsHeard ds)
+  told_ran : {A : Type 0} (r : Result A WorkFault) (ds made left : List Delivery) (ls : List Letter) (v w : View) (ss ts : List SeqState) → ds ≡ made ++ left
+      → length ss ≡ length ups → (All (λ (l : Letter). l ≢ LoseReply) ls → All IsHeard ds)
       → OnOk r ((all_acknowledged ts ≡ true) × (w.begun ≡ v.begun + length (numbers ds)) × (w.mark ≡ v.mark)) → Stops shape room ups (numbers ds) v w ts r
       → Ran shape room ups made v w → acks ts ≡ acks (acknowledge ss made) → Pumps shape room ups (numbers ds) ls v w ss ts r
   told_ran r ds made left ls v w ss ts split each heard done refused ran same =
@@ -324,9 +351,12 @@ module _ (shape : Shape) (room : ℕ) (ups : List UploadData) where
       }
 
   -- all of it, of a call that ended with an application that was refused
-  told_call : {A : Type 0} (fault : WorkFault) (ds made later : List Delivery) (first : Delivery) (ls : List Letter) (v b w : View) (ss ts : List SeqState) (f : ApplyFault)
-      → ds ≡ made ++ first ∷ later → length ss ≡ length ups → (All (λ (l : Letter). l ≢ LoseReply) ls → All IsHeard ds) → Stops shape room ups {A = A} (numbers ds) v w ts (Err fault)
-      → first.seq < length ups → (upload_at ups first.seq).seq ≡ first.seq → Ran shape room ups made v b → Serves shape room (upload_at ups first.seq) b w (Err f) → acks ts ≡ acks (acknowledge ss made)
+  told_call : {A : Type 0} (fault : WorkFault) (ds made later : List Delivery) (first : Delivery) (ls : List Letter) (v b w : View) (ss ts : List SeqState)
+      (f : ApplyFault)
+      → ds ≡ made ++ first ∷ later → length ss ≡ length ups → (All (λ (l : Letter). l ≢ LoseReply) ls → All IsHeard ds)
+      → Stops shape room ups {A = A} (numbers ds) v w ts (Err fault)
+      → first.seq < length ups → (upload_at ups first.seq).seq ≡ first.seq → Ran shape room ups made v b
+      → Serves shape room (upload_at ups first.seq) b w (Err f) → acks ts ≡ acks (acknowledge ss made)
       → Pumps shape room ups {A = A} (numbers ds) ls v w ss ts (Err fault)
   told_call {A} fault ds made later first ls v b w ss ts f split each heard refused short seq ran s same =
       let u = upload_at ups first.seq in
@@ -358,7 +388,8 @@ module _ (shape : Shape) (room : ℕ) (ups : List UploadData) where
       }
 
   -- the first delivery that was refused
-  refused_at : (ds made left : List Delivery) (v b w : View) (seq : ℕ) (fault : ApplyFault) → ds ≡ made ++ left → Ran shape room ups made v b → IsRefusedAt shape room ups left b w seq fault → IsFirstRefused shape room ups (numbers ds) v w seq fault
+  refused_at : (ds made left : List Delivery) (v b w : View) (seq : ℕ) (fault : ApplyFault) → ds ≡ made ++ left → Ran shape room ups made v b
+      → IsRefusedAt shape room ups left b w seq fault → IsFirstRefused shape room ups (numbers ds) v w seq fault
   refused_at ds made left v b w seq fault split ran r =
       let c = r.call in
       let g = grew_last made v b w (upload_at ups c.first.seq) fault ran c.serves in
@@ -368,14 +399,16 @@ module _ (shape : Shape) (room : ℕ) (ups : List UploadData) where
       record {
         earlier = numbers made;
         later = numbers c.later;
-        place = ap numbers (split ∙ ap (λ (l : List Delivery). made ++ l) c.place) ∙ (map-append (λ (d : Delivery). d.seq) made (c.first ∷ c.later) ∙ ap (λ (n : ℕ). numbers made ++ n ∷ numbers c.later) (sym r.seq_is));
+        place = ap numbers (split ∙ ap (λ (l : List Delivery). made ++ l) c.place)
+            ∙ (map-append (λ (d : Delivery). d.seq) made (c.first ∷ c.later) ∙ ap (λ (n : ℕ). numbers made ++ n ∷ numbers c.later) (sym r.seq_is));
         stand = All-map (λ (q : ℕ). StandsIn (upload_at ups q) w.seen) (λ (d : Delivery). d.seq) made g.kept;
         calls = omega arith;
         cause = subst (λ n. IsCause shape room ups n v w fault) (sym r.seq_is) (cause_of made c.first.seq v b w fault r.refusing ran c.serves);
       }
 
   -- want of memory, before a call and in one
-  short_ran : (ds made left : List Delivery) (v w : View) (ts : List SeqState) → ds ≡ made ++ left → Ran shape room ups made v w → none_of ts ≡ 0 → IsStarved shape room ups (numbers ds) v w ts
+  short_ran : (ds made left : List Delivery) (v w : View) (ts : List SeqState) → ds ≡ made ++ left → Ran shape room ups made v w → none_of ts ≡ 0
+      → IsStarved shape room ups (numbers ds) v w ts
   short_ran ds made left v w ts split ran none =
       let g = grew_ran made v w ran in
       let begun : w.begun ≡ v.begun + length made = ap (λ (y : View). y.begun) ran.view in
@@ -390,7 +423,8 @@ module _ (shape : Shape) (room : ℕ) (ups : List UploadData) where
         none = none;
       }
 
-  short_call : (ds made left : List Delivery) (v b w : View) (ts : List SeqState) (u : UploadData) → ds ≡ made ++ left → Ran shape room ups made v b → Serves shape room u b w (Err faults.Memory) → none_of ts ≡ 0 → IsStarved shape room ups (numbers ds) v w ts
+  short_call : (ds made left : List Delivery) (v b w : View) (ts : List SeqState) (u : UploadData) → ds ≡ made ++ left → Ran shape room ups made v b
+      → Serves shape room u b w (Err faults.Memory) → none_of ts ≡ 0 → IsStarved shape room ups (numbers ds) v w ts
   short_call ds made left v b w ts u split ran s none =
       let g = grew_last made v b w u faults.Memory ran s in
       let begun : b.begun ≡ v.begun + length made = ap (λ (y : View). y.begun) ran.view in
@@ -407,16 +441,23 @@ module _ (shape : Shape) (room : ℕ) (ups : List UploadData) where
       }
 
   -- whatever the outcome
-  pub told : {A : Type 0} (r : Result A WorkFault) (ds : List Delivery) (ls : List Letter) (v w : View) (ss ts : List SeqState) → length ss ≡ length ups → (All (λ (l : Letter). l ≢ LoseReply) ls → All IsHeard ds)
+  pub told : {A : Type 0} (r : Result A WorkFault) (ds : List Delivery) (ls : List Letter) (v w : View) (ss ts : List SeqState) → length ss ≡ length ups
+      → (All (λ (l : Letter). l ≢ LoseReply) ls → All IsHeard ds)
       → OnOk r (all_acknowledged ts ≡ true) → Outcome shape room ups ds v w ss ts r → Pumps shape room ups (numbers ds) ls v w ss ts r
   told (Ok a) ds ls v w ss ts each heard done o =
-      let begun : w.begun ≡ v.begun + length (numbers ds) = ap (λ (y : View). y.begun) o.ran.view ∙ ap (λ (n : ℕ). v.begun + n) (sym (length-map ds (λ (d : Delivery). d.seq))) in
+      let begun : w.begun ≡ v.begun + length (numbers ds)
+      = ap (λ (y : View). y.begun) o.ran.view ∙ ap (λ (n : ℕ). v.begun + n) (sym (length-map ds (λ (d : Delivery). d.seq))) in
       told_ran (Ok a) ds ds [] ls v w ss ts (sym (append-nil ds)) each heard (done, begun, ap (λ (y : View). y.mark) o.ran.view) tt o.ran o.acked
   told {A} (Err (work.Refused seq fault)) ds ls v w ss ts each heard done o =
       let c = o.last.call in
-      told_call {A = A} (work.Refused seq fault) ds o.made c.later c.first ls v o.between w ss ts fault (o.split ∙ ap (λ (l : List Delivery). o.made ++ l) c.place) each heard
+      told_call {A = A} (work.Refused seq fault) ds o.made c.later c.first ls v o.between w ss ts fault
+      (o.split ∙ ap (λ (l : List Delivery). o.made ++ l) c.place) each heard
       (refused_at ds o.made o.left v o.between w seq fault o.split o.ran o.last) c.short c.seq o.ran c.serves o.acked
   told {A} (Err work.Memory) ds ls v w ss ts each heard done o = elim o.last [
-    | inl same ↦ told_ran {A = A} (Err work.Memory) ds o.made o.left ls v w ss ts o.split each heard tt (short_ran ds o.made o.left v w ts o.split (subst (Ran shape room ups o.made v) (sym same) o.ran) (o.none tt)) (subst (Ran shape room ups o.made v) (sym same) o.ran) o.acked
-    | inr c ↦ told_call {A = A} work.Memory ds o.made c.later c.first ls v o.between w ss ts faults.Memory (o.split ∙ ap (λ (l : List Delivery). o.made ++ l) c.place) each heard (short_call ds o.made o.left v o.between w ts (upload_at ups c.first.seq) o.split o.ran c.serves (o.none tt)) c.short c.seq o.ran c.serves o.acked
+    | inl same ↦ told_ran {A = A} (Err work.Memory) ds o.made o.left ls v w ss ts o.split each heard tt
+        (short_ran ds o.made o.left v w ts o.split (subst (Ran shape room ups o.made v) (sym same) o.ran) (o.none tt))
+        (subst (Ran shape room ups o.made v) (sym same) o.ran) o.acked
+    | inr c ↦ told_call {A = A} work.Memory ds o.made c.later c.first ls v o.between w ss ts faults.Memory
+        (o.split ∙ ap (λ (l : List Delivery). o.made ++ l) c.place) each heard
+        (short_call ds o.made o.left v o.between w ts (upload_at ups c.first.seq) o.split o.ran c.serves (o.none tt)) c.short c.seq o.ran c.serves o.acked
   ]

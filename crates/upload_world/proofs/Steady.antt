@@ -1,5 +1,5 @@
 -- What acknowledging keeps.
-use Rattle.std.proofs.Common.{◌≡◌, ℕ, ◌+◌, ◌<◌, ◌≤◌, Bool, true, false, cond, List, [], ◌∷◌, ◌++◌, map, length, set, refl, sym, ap, subst, Result, Ok, Err, OnOk, ◌∙◌, arith, length-set}
+use Rattle.std.proofs.Common.{◌≡◌, true, false, cond, List, [], ◌∷◌, length, set, refl, sym, ap, Result, Ok, Err, OnOk, ◌∙◌, arith, length-set}
 use Rattle.uploader_core.specs.declared.state.SeqState.{SeqState}
 use Rattle.uploader_core.specs.declared.state.SeqState.TheVariants as states
 use Rattle.link_deliveries.specs.Waiting.{is_refused, refusals}
@@ -11,7 +11,9 @@ use Rattle.upload_world.specs.Pumping.{IsSteady}
 
 pub length-acknowledge : (ss : List SeqState) (ds : List Delivery) → length (acknowledge ss ds) ≡ length ss
 length-acknowledge ss [] = refl
-length-acknowledge ss (d ∷ ds) = length-acknowledge (acknowledge_one ss d) ds ∙ (elim d.heard as (λ b. length (cond b (set ss d.seq states.Acknowledged) ss) ≡ length ss) [ true ↦ length-set ss d.seq states.Acknowledged | false ↦ refl ])
+length-acknowledge ss (d ∷ ds) = length-acknowledge (acknowledge_one ss d) ds
+    ∙ (elim d.heard as (λ b. length (cond b (set ss d.seq states.Acknowledged) ss) ≡ length ss)
+    [ true ↦ length-set ss d.seq states.Acknowledged | false ↦ refl ])
 
 pub steady_acknowledged : (u w : UploaderState) (ds : List Delivery) → IsSteady u → w.uploads ≡ u.uploads → w.states ≡ acknowledge u.states ds → IsSteady w
 steady_acknowledged u w ds s ups is =
@@ -20,6 +22,7 @@ steady_acknowledged u w ds s ups is =
     let same : refusals w.states ≡ refusals (acknowledge u.states ds) = ap refusals is in
     record { each = ap length is ∙ (length-acknowledge u.states ds ∙ (s.each ∙ ap length (sym ups))); none = omega (arith, down, none, same) }
 
-pub steady_after : {A : Type 0} (u w : UploaderState) (ds : List Delivery) (r : Result A WorkFault) → IsSteady u → w.uploads ≡ u.uploads → OnOk r (w.states ≡ acknowledge u.states ds) → OnOk r (IsSteady w)
+pub steady_after : {A : Type 0} (u w : UploaderState) (ds : List Delivery) (r : Result A WorkFault) → IsSteady u → w.uploads ≡ u.uploads
+    → OnOk r (w.states ≡ acknowledge u.states ds) → OnOk r (IsSteady w)
 steady_after u w ds (Ok a) s ups is = steady_acknowledged u w ds s ups is
 steady_after u w ds (Err f) s ups is = tt

@@ -13,7 +13,8 @@ use Rattle.upload_world.specs.Law.{AreKept, KeysDiffer}
 
 -- Each acknowledged upload of an uploader has all its columns in the content.
 abbrev pub IsKeptFor : Content → UploaderState → Type 0
-IsKeptFor m u = (seq : ℕ) (f : UploadData) → is_acknowledged (state_at u.states seq) ≡ true → slice_get u.uploads seq ≡ Some f → AreKept m f.columns
+IsKeptFor m u = (seq : ℕ) (f : UploadData) → is_acknowledged (state_at u.states seq) ≡ true
+    → slice_get u.uploads seq ≡ Some f → AreKept m f.columns
 
 -- The hosts with their uploads, which no event changes.
 abbrev pub Roster : Type 0

@@ -1,5 +1,5 @@
 -- What a list of deliveries does to a pass, as clauses within the pump say it.
-use Rattle.std.specs.Prelude.{◌≡◌, ◌⊎◌, ℕ, ◌+◌, ◌<◌, ◌≤◌, Bool, true, false, cond, List, [], ◌∷◌, ◌++◌, map, length, drop, Option, None, Some, Result, Ok, Err, All}
+use Rattle.std.specs.Prelude.{◌≡◌, ◌⊎◌, ℕ, ◌+◌, ◌<◌, ◌≤◌, Bool, true, false, List, [], ◌∷◌, ◌++◌, map, length, drop, Option, None, Some, Result, Ok, Err, All}
 use Rattle.sketchlet_wire.specs.Uploads.{UploadData, IsFull}
 use Rattle.uploader_core.specs.declared.state.SeqState.{SeqState}
 use Rattle.lg_model.specs.declared.limits.TheConstants.{MOST_OUTSTANDING}
@@ -7,7 +7,7 @@ use Rattle.lg_model.specs.declared.scenario.Letter.{Letter}
 use Rattle.lg_model.specs.declared.scenario.Letter.TheVariants.{Deliver, Lose, LoseReply, Twice, Hold}
 use Rattle.uploader_core.specs.States.{is_acknowledged, is_idle, outstanding, state_at}
 use Rattle.link_deliveries.specs.Waiting.{refusals, IsNext}
-use Rattle.link_deliveries.specs.Deliveries.{Delivery, acknowledge, brings, send, after_send, held_after, round, EndsRound}
+use Rattle.link_deliveries.specs.Deliveries.{Delivery, acknowledge, brings, send, after_send, held_after, EndsRound}
 use Rattle.column_book.specs.declared.entry.Entry.{Entry}
 use Rattle.book_journal.specs.declared.applied.Applied.{Applied}
 use Rattle.book_journal.specs.declared.applied.ApplyFault.{ApplyFault}
@@ -15,15 +15,13 @@ use Rattle.book_journal.specs.declared.applied.ApplyFault.TheVariants as faults
 use Rattle.upload_frame.specs.declared.reply.Reply.{Reply}
 use Rattle.lg_model.specs.Placing.{Shape}
 use Rattle.column_book.specs.Applying.{stored_entry}
-use Rattle.shared_book.specs.Passes.{HasNewBy}
-use Rattle.upload_world.specs.Pumps.{StandsIn}
+use Rattle.shared_book.specs.Passes.{HasNewBy, Serves}
+use Rattle.upload_world.specs.Pumps.{StandsIn, upload_at}
 use Rattle.upload_frame.specs.Frames.{frame_of}
 use Rattle.shared_book.specs.Replying.{reply_for}
 use Rattle.uploader_core.specs.Uploader.{UploaderState, states_after}
-use Rattle.upload_world.specs.Pumps.{upload_at}
 use Rattle.lock_rule.specs.declared.view.View.{View}
 use Rattle.lock_rule.specs.Views.{Marked}
-use Rattle.shared_book.specs.Passes.{Serves}
 use Rattle.upload_world.specs.declared.deliver.Sent.{Sent}
 use Rattle.upload_world.specs.declared.fault.WorkFault.{WorkFault}
 use Rattle.upload_world.specs.declared.fault.WorkFault.TheVariants.{Refused, Memory}

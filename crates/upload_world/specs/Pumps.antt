@@ -84,10 +84,14 @@ module _ (shape : Shape) (room : ℕ) (ups : List UploadData) where
 
   -- Why the book refused the upload of number q, as the pass shows it.
   abbrev pub IsCause : (q : ℕ) → (v w : View) → ApplyFault → Type 0
-  IsCause q v w (faults.WrongShape kept came) = decide shape room (records w.seen) (upload_at ups q) ≡ Err (book.WrongShape kept came)
-  IsCause q v w (faults.Conflict key kept came) = decide shape room (records w.seen) (upload_at ups q) ≡ Err (book.Conflict key kept came)
-  IsCause q v w (faults.Full held more) = decide shape room (records w.seen) (upload_at ups q) ≡ Err (book.Full held more)
-  IsCause q v w faults.DiskFault = (Marked v.mark → ⊥) × (w.mark ≡ Carries (stored_entry v.number w.seen (upload_at ups q)))
+  IsCause q v w (faults.WrongShape kept came) =
+      decide shape room (records w.seen) (upload_at ups q) ≡ Err (book.WrongShape kept came)
+  IsCause q v w (faults.Conflict key kept came) =
+      decide shape room (records w.seen) (upload_at ups q) ≡ Err (book.Conflict key kept came)
+  IsCause q v w (faults.Full held more) =
+      decide shape room (records w.seen) (upload_at ups q) ≡ Err (book.Full held more)
+  IsCause q v w faults.DiskFault =
+      (Marked v.mark → ⊥) × (w.mark ≡ Carries (stored_entry v.number w.seen (upload_at ups q)))
   IsCause q v w (faults.Broken records) = Marked w.mark × (records ≡ length w.seen)
   IsCause q v w faults.Memory = ⊥
 
@@ -100,8 +104,8 @@ module _ (shape : Shape) (room : ℕ) (ups : List UploadData) where
     pub calls : w.begun ≡ v.begun + length earlier + 1
     pub cause : IsCause q v w fault
 
-  -- Want of memory: the first deliveries stand in the list, at most one more call was made, the mark is as it was, and no
-  -- upload is refused.
+  -- Want of memory: the first deliveries stand in the list, at most one more call was made, the mark is as it was, and
+  -- no upload is refused.
   pub record IsStarved (ds : List ℕ) (v w : View) (ts : List SeqState) : Type 0 where
     pub earlier : List ℕ
     pub later : List ℕ
@@ -118,9 +122,10 @@ module _ (shape : Shape) (room : ℕ) (ups : List UploadData) where
 
   -- ---- the whole
 
-  -- What a pump does over a link with these letters, by the numbers of the uploads that the link delivers: to the pass, from
-  -- v to w, and to the states of its uploads, from ss to ts.
-  pub record Pumps {A : Type 0} (ds : List ℕ) (letters : List Letter) (v w : View) (ss ts : List SeqState) (result : Result A WorkFault) : Type 0 where
+  -- What a pump does over a link with these letters, by the numbers of the uploads that the link delivers: to the pass,
+  -- from v to w, and to the states of its uploads, from ss to ts.
+  pub record Pumps {A : Type 0} (ds : List ℕ) (letters : List Letter) (v w : View) (ss ts : List SeqState)
+      (result : Result A WorkFault) : Type 0 where
     -- at Ok all are acknowledged, by exactly these deliveries, and the mark is as it was
     pub done : OnOk result ((all_acknowledged ts ≡ true) × (w.begun ≡ v.begun + length ds) × (w.mark ≡ v.mark))
     pub stops : Stops ds v w ts result
@@ -134,8 +139,10 @@ module _ (shape : Shape) (room : ℕ) (ups : List UploadData) where
     pub own : (n : ℕ) → OwnFrom v.number n v.seen → OwnFrom v.number n w.seen
     pub carries : CarriesOwn v → CarriesOwn w
     -- what this call added, and what a mark carries that it set
-    pub added : (i : ℕ) (e : Entry) → length v.seen ≤ i → slice_get w.seen i ≡ Some e → e.pass ≡ v.number → IsOfCall ds v.number (take i w.seen) e
+    pub added : (i : ℕ) (e : Entry) → length v.seen ≤ i → slice_get w.seen i ≡ Some e → e.pass ≡ v.number
+        → IsOfCall ds v.number (take i w.seen) e
     pub set : (Marked v.mark → ⊥) → (e : Entry) → w.mark ≡ Carries e → IsOfCall ds v.number w.seen e
     pub marked : Marked v.mark → (w.mark ≡ v.mark) × (w.seen ≡ v.seen)
     -- where no letter drops a reply, what was added is acknowledged
-    pub answered : All (λ l. l ≢ LoseReply) letters → (i : ℕ) (e : Entry) → length v.seen ≤ i → slice_get w.seen i ≡ Some e → e.pass ≡ v.number → acked_at ts e.stored.seq ≡ true
+    pub answered : All (λ l. l ≢ LoseReply) letters → (i : ℕ) (e : Entry)
+        → length v.seen ≤ i → slice_get w.seen i ≡ Some e → e.pass ≡ v.number → acked_at ts e.stored.seq ≡ true

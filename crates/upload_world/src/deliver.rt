@@ -28,7 +28,9 @@ fn hand_on(
     answer: &Result<Applied, ApplyFault>,
     heard: bool,
 )
-    ensures { uploader.new ≡ record uploader.old { states = cond heard (answered uploader.old.host uploader.old.states upload.now answer.now) uploader.old.states } }
+    ensures { uploader.new ≡ record uploader.old {
+      states = cond heard (answered uploader.old.host uploader.old.states upload.now answer.now) uploader.old.states;
+    } }
 {
     if heard && let Some(reply) = reply_of(upload, answer) {
         let _refused = uploader.on_reply(&reply);
@@ -63,8 +65,11 @@ pub(crate) fn deliver<D: Disk, R: Wait>(
     ensures book { pass.new.book ≡ pass.old.book }
     ensures same { IsSame uploader.old uploader.new }
     ensures steady { OnOk result (IsSteady uploader.new) }
-    ensures states { OnOk result (uploader.new.states ≡ acknowledge uploader.old.states (delivery sent.now.seq heard ∷ [])) }
-    ensures outcome { Outcome book.now.first.shape book.now.first.room uploader.old.uploads (delivery sent.now.seq heard ∷ []) pass.old.view pass.new.view uploader.old.states uploader.new.states result }
+    ensures states { OnOk result (uploader.new.states
+        ≡ acknowledge uploader.old.states (delivery sent.now.seq heard ∷ [])) }
+    ensures outcome { Outcome book.now.first.shape book.now.first.room uploader.old.uploads
+        (delivery sent.now.seq heard ∷ [])
+        pass.old.view pass.new.view uploader.old.states uploader.new.states result }
 {
     let upload = read_upload(alloc, &sent.frame)?;
     let answer = book.apply(rt, pass, &upload);

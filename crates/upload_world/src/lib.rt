@@ -8,8 +8,8 @@
 //! | [`Book`], [`Uploader`], [`Memory`] | the parts, of the crates below |
 //!
 //! In a world nothing waits, knows the time or touches a disk; a loss is a delivery that never comes
-//! (docs/DEFINITIONS.md, World). A pump applies uploads to the shared book of a real disk, in the order of its link's letters
-//! (docs/DEFINITIONS.md, Deliveries).
+//! (docs/DEFINITIONS.md, World). A pump applies uploads to the shared book of a real disk, in the order of its link's
+//! letters (docs/DEFINITIONS.md, Deliveries).
 #![tactic(auto)]
 
 mod deliver;

@@ -1,5 +1,5 @@
 //! One round: sends as long as the window is open, and what is held at the end.
-ghost use Rattle.std.specs.Prelude.{◌≡◌, ◌+◌, ◌*◌, ◌<◌, ◌≤◌, ℕ, OnOk, IfOk, All, map, length, drop, [], false};
+ghost use Rattle.std.specs.Prelude.{◌≡◌, ◌+◌, ◌*◌, ◌<◌, ◌≤◌, ℕ, OnOk, IfOk, All, length, drop, false};
 ghost use Rattle.link_deliveries.specs.Waiting.{IsNext, unacknowledged};
 ghost use Rattle.link_deliveries.specs.Deliveries.{letter_of, brings, send, round};
 ghost use Rattle.lock_rule.specs.Views.{most_calls};
@@ -56,13 +56,15 @@ fn send_next<D: Disk, G: Gate, R: Wait>(
     gate: &G,
 ) -> Result<bool, WorkFault>
     requires book { pass.old.book ≡ book.now.id }
-    requires left { (q : ℕ) → IsNext uploader.old.states q → pass.old.view.begun + length (brings (send q letter) (seqs held.old.items)) ≤ most_calls }
+    requires left { (q : ℕ) → IsNext uploader.old.states q
+        → pass.old.view.begun + length (brings (send q letter) (seqs held.old.items)) ≤ most_calls }
     requires held { All (IsSent uploader.old.host uploader.old.uploads) held.old.items }
     requires steady { IsSteady uploader.old }
     ensures book { pass.new.book ≡ pass.old.book }
     ensures same { IsSame uploader.old uploader.new }
     ensures steady { OnOk result (IsSteady uploader.new) }
-    ensures sends { SendsNext book.now.first.shape book.now.first.room uploader.old.uploads uploader.old.host letter uploader.old.states uploader.new.states held.old.items held.new.items pass.old.view pass.new.view result }
+    ensures sends { SendsNext book.now.first.shape book.now.first.room uploader.old.uploads uploader.old.host letter
+        uploader.old.states uploader.new.states held.old.items held.new.items pass.old.view pass.new.view result }
 {
     let Some(seq) = uploader.next() else {
         return Ok(false);
@@ -84,14 +86,18 @@ pub(crate) fn round<D: Disk, G: Gate, R: Wait>(
     gate: &G,
 ) -> Result<usize, WorkFault>
     requires book { pass.old.book ≡ book.now.id }
-    requires left { pass.old.view.begun + 2 * length (drop from letters.now) + unacknowledged uploader.old.states ≤ most_calls }
+    requires left { pass.old.view.begun + 2 * length (drop from letters.now) + unacknowledged uploader.old.states
+        ≤ most_calls }
     requires steady { IsSteady uploader.old }
     ensures book { pass.new.book ≡ pass.old.book }
     ensures same { IsSame uploader.old uploader.new }
     ensures steady { OnOk result (IsSteady uploader.new) }
-    ensures left { IfOk result (λ at. pass.new.view.begun + 2 * length (drop at letters.now) + unacknowledged uploader.new.states ≤ most_calls) }
+    ensures left { IfOk result (λ at. pass.new.view.begun + 2 * length (drop at letters.now)
+        + unacknowledged uploader.new.states ≤ most_calls) }
     ensures ends { RoundEnds letters.now from uploader.old.states uploader.new.states result }
-    ensures outcome { Outcome book.now.first.shape book.now.first.room uploader.old.uploads (round uploader.old.states (drop from letters.now)) pass.old.view pass.new.view uploader.old.states uploader.new.states result }
+    ensures outcome { Outcome book.now.first.shape book.now.first.room uploader.old.uploads
+        (round uploader.old.states (drop from letters.now))
+        pass.old.view pass.new.view uploader.old.states uploader.new.states result }
 {
     let mut held = Vec::new(alloc);
     let mut at = from;

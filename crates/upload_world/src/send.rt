@@ -1,5 +1,5 @@
 //! One send: what a letter brings at once, what it lets go, and what it holds.
-ghost use Rattle.std.specs.Prelude.{◌≡◌, ◌+◌, ◌≤◌, ◌++◌, OnOk, OnErr, All, map, length, IfOk};
+ghost use Rattle.std.specs.Prelude.{◌≡◌, ◌+◌, ◌≤◌, OnOk, All, map, length};
 ghost use Rattle.link_deliveries.specs.Deliveries.{acknowledge, at_once, let_go, held_after, brings, send, heard};
 ghost use Rattle.lock_rule.specs.Views.{most_calls};
 ghost use Rattle.upload_world.specs.Pumping.{IsSent, IsSteady, IsSame, Outcome, seqs, still_held, held_with};
@@ -31,7 +31,9 @@ pub(crate) fn release<D: Disk, R: Wait>(
     ensures same { IsSame uploader.old uploader.new }
     ensures steady { OnOk result (IsSteady uploader.new) }
     ensures states { OnOk result (uploader.new.states ≡ acknowledge uploader.old.states (map heard (seqs held.now))) }
-    ensures outcome { Outcome book.now.first.shape book.now.first.room uploader.old.uploads (map heard (seqs held.now)) pass.old.view pass.new.view uploader.old.states uploader.new.states result }
+    ensures outcome { Outcome book.now.first.shape book.now.first.room uploader.old.uploads
+        (map heard (seqs held.now))
+        pass.old.view pass.new.view uploader.old.states uploader.new.states result }
 {
     for sent in held {
         deliver(alloc, rt, book, pass, uploader, sent, true)?;
@@ -57,7 +59,9 @@ fn bring<D: Disk, R: Wait>(
     ensures same { IsSame uploader.old uploader.new }
     ensures steady { OnOk result (IsSteady uploader.new) }
     ensures states { OnOk result (uploader.new.states ≡ acknowledge uploader.old.states (at_once letter sent.now.seq)) }
-    ensures outcome { Outcome book.now.first.shape book.now.first.room uploader.old.uploads (at_once letter sent.now.seq) pass.old.view pass.new.view uploader.old.states uploader.new.states result }
+    ensures outcome { Outcome book.now.first.shape book.now.first.room uploader.old.uploads
+        (at_once letter sent.now.seq)
+        pass.old.view pass.new.view uploader.old.states uploader.new.states result }
 {
     match letter {
         Letter::Deliver => deliver(alloc, rt, book, pass, uploader, sent, true),
@@ -88,9 +92,12 @@ fn let_out<D: Disk, R: Wait>(
     ensures book { pass.new.book ≡ pass.old.book }
     ensures same { IsSame uploader.old uploader.new }
     ensures steady { OnOk result (IsSteady uploader.new) }
-    ensures states { OnOk result (uploader.new.states ≡ acknowledge uploader.old.states (map heard (let_go letter (seqs held.old.items)))) }
+    ensures states { OnOk result (uploader.new.states
+        ≡ acknowledge uploader.old.states (map heard (let_go letter (seqs held.old.items)))) }
     ensures held { OnOk result (held.new.items ≡ still_held letter held.old.items) }
-    ensures outcome { Outcome book.now.first.shape book.now.first.room uploader.old.uploads (map heard (let_go letter (seqs held.old.items))) pass.old.view pass.new.view uploader.old.states uploader.new.states result }
+    ensures outcome { Outcome book.now.first.shape book.now.first.room uploader.old.uploads
+        (map heard (let_go letter (seqs held.old.items)))
+        pass.old.view pass.new.view uploader.old.states uploader.new.states result }
 {
     match letter {
         Letter::Deliver | Letter::LoseReply | Letter::Twice => {
@@ -131,10 +138,13 @@ pub(crate) fn send<D: Disk, R: Wait>(
     ensures book { pass.new.book ≡ pass.old.book }
     ensures same { IsSame uploader.old uploader.new }
     ensures steady { OnOk result (IsSteady uploader.new) }
-    ensures states { OnOk result (uploader.new.states ≡ acknowledge uploader.old.states (brings (send sent.seq letter) (seqs held.old.items))) }
+    ensures states { OnOk result (uploader.new.states
+        ≡ acknowledge uploader.old.states (brings (send sent.seq letter) (seqs held.old.items))) }
     ensures held { OnOk result (seqs held.new.items ≡ held_after letter sent.seq (seqs held.old.items)) }
     ensures held_sent { OnOk result (All (IsSent uploader.old.host uploader.old.uploads) held.new.items) }
-    ensures outcome { Outcome book.now.first.shape book.now.first.room uploader.old.uploads (brings (send sent.seq letter) (seqs held.old.items)) pass.old.view pass.new.view uploader.old.states uploader.new.states result }
+    ensures outcome { Outcome book.now.first.shape book.now.first.room uploader.old.uploads
+        (brings (send sent.seq letter) (seqs held.old.items))
+        pass.old.view pass.new.view uploader.old.states uploader.new.states result }
 {
     bring(alloc, rt, book, pass, uploader, &sent, letter)?;
     let_out(alloc, rt, book, pass, uploader, held, letter)?;

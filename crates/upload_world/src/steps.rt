@@ -1,5 +1,5 @@
 //! What each event does to the parts of a world.
-ghost use Rattle.std.specs.Prelude.{◌≡◌, ◌≤◌, ℕ, map, List, Ok, Err, Some, length, vec_len, vec_capacity, IfOk, OnErr, OnOk, MatchResult};
+ghost use Rattle.std.specs.Prelude.{◌≡◌, ◌≤◌, ℕ, map, List, Ok, Err, Some, vec_len, vec_capacity, IfOk, OnErr, OnOk, MatchResult};
 ghost use Rattle.lg_model.specs.declared.limits.TheConstants.{MOST_UPLOAD_COLUMNS};
 ghost use Rattle.sketchlet_wire.specs.Uploads.{UploadData};
 ghost use Rattle.upload_frame.specs.declared.reply.Reply.{Reply as ReplyData};

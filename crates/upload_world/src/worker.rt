@@ -32,7 +32,9 @@ fn all_rounds<D: Disk, G: Gate, R: Wait>(
     ensures book { pass.new.book ≡ pass.old.book }
     ensures same { IsSame uploader.old uploader.new }
     ensures done { OnOk result (all_acknowledged uploader.new.states ≡ true) }
-    ensures outcome { Outcome book.now.first.shape book.now.first.room uploader.old.uploads (brought_in_all uploader.old.states letters.now) pass.old.view pass.new.view uploader.old.states uploader.new.states result }
+    ensures outcome { Outcome book.now.first.shape book.now.first.room uploader.old.uploads
+        (brought_in_all uploader.old.states letters.now)
+        pass.old.view pass.new.view uploader.old.states uploader.new.states result }
 {
     let mut at = 0;
     'rounds: while !uploader.done() {
@@ -42,18 +44,18 @@ fn all_rounds<D: Disk, G: Gate, R: Wait>(
     Ok(())
 }
 
-/// Sends an uploader's uploads over a link that does what the letters say, and applies what comes to the book with the pass,
-/// in rounds, until all are acknowledged (docs/DEFINITIONS.md, Deliveries; docs/FORMATS.md, Letters of a link). The deliveries
-/// are those of [`link_deliveries`], in that order, one call each.
+/// Sends an uploader's uploads over a link that does what the letters say, and applies what comes to the book with the
+/// pass, in rounds, until all are acknowledged (docs/DEFINITIONS.md, Deliveries; docs/FORMATS.md, Letters of a link). The
+/// deliveries are those of [`link_deliveries`], in that order, one call each.
 ///
-/// Each send writes its upload's frame and hands the bytes to the gate once, before anything comes of it; each delivery reads
-/// the upload back from these bytes, before it waits for its turn. The calls that are left have to be at least twice the
-/// number of uploads and letters, and no upload may be refused.
+/// Each send writes its upload's frame and hands the bytes to the gate once, before anything comes of it; each delivery
+/// reads the upload back from these bytes, before it waits for its turn. The calls that are left have to be at least
+/// twice the number of uploads and letters, and no upload may be refused.
 ///
-/// `Refused` comes exactly at the first delivery that the book refuses for another cause than memory: the earlier ones stand
-/// in the list that the pass has seen, and no more is sent. `Memory` comes where there was none for a frame, an upload or the
-/// book; then as well the deliveries before it stand. At every end an acknowledged upload has all its columns in that list.
-/// It may wait forever where the call of another pass does not return.
+/// `Refused` comes exactly at the first delivery that the book refuses for another cause than memory: the earlier ones
+/// stand in the list that the pass has seen, and no more is sent. `Memory` comes where there was none for a frame, an
+/// upload or the book; then as well the deliveries before it stand. At every end an acknowledged upload has all its
+/// columns in that list. It may wait forever where the call of another pass does not return.
 pub fn pump<D: Disk + Send, G: Gate, R: Wait>(
     alloc: Global,
     rt: &R,
@@ -68,7 +70,9 @@ pub fn pump<D: Disk + Send, G: Gate, R: Wait>(
     requires none_refused { refusals uploader.old.states ≡ 0 }
     ensures book { pass.new.book ≡ pass.old.book }
     ensures uploads { IsSame uploader.old uploader.new }
-    ensures pumps { Pumps book.now.first.shape book.now.first.room uploader.old.uploads (deliveries uploader.old.states letters.now) letters.now pass.old.view pass.new.view uploader.old.states uploader.new.states result }
+    ensures pumps { Pumps book.now.first.shape book.now.first.room uploader.old.uploads
+        (deliveries uploader.old.states letters.now) letters.now
+        pass.old.view pass.new.view uploader.old.states uploader.new.states result }
 {
     let _count = uploader.len();
     all_rounds(alloc, rt, book, pass, uploader, letters, gate)

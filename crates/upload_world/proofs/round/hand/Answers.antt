@@ -1,4 +1,4 @@
-use Rattle.std.proofs.Common.{◌≡◌, ◌∙◌, refl, sym, ap, subst}
+use Rattle.std.proofs.Common.{◌∙◌, refl, sym, ap, subst}
 use Rattle.sketchlet_wire.specs.Uploads.{UploadData, IsFull}
 use Rattle.upload_frame.specs.Frames.{frame_of}
 use Rattle.upload_world.proofs.Sending.{upload_is}

@@ -9,5 +9,6 @@ invariant-loop-sent g l = record {
   same : IsSame l.fn.uploader l.uploader;
   steady : IsSteady l.uploader;
   states : l.uploader.states ≡ acknowledge l.fn.uploader.states (map heard (seqs (take l.sent-index l.held)));
-  went : Went l.book.first.shape l.book.first.room l.fn.uploader.uploads (map heard (seqs (take l.sent-index l.held))) l.fn.pass.view l.pass.view l.fn.uploader.states l.uploader.states;
+  went : Went l.book.first.shape l.book.first.room l.fn.uploader.uploads
+      (map heard (seqs (take l.sent-index l.held))) l.fn.pass.view l.pass.view l.fn.uploader.states l.uploader.states;
 }

@@ -9,7 +9,8 @@ invariant-rounds g l = record {
   book : l.pass.book ≡ l.fn.pass.book;
   same : IsSame l.fn.uploader l.uploader;
   steady : IsSteady l.uploader;
-  stands : Stands l.book.first.shape l.book.first.room l.fn.uploader.uploads l.fn.uploader.states l.letters l.fn.pass.view l.uploader.states (drop l.at l.letters) l.pass.view;
+  stands : Stands l.book.first.shape l.book.first.room l.fn.uploader.uploads l.fn.uploader.states l.letters l.fn.pass.view l.uploader.states
+      (drop l.at l.letters) l.pass.view;
 }
 
 abbrev pub decreases-rounds : goal.decreases-rounds
