@@ -12,6 +12,9 @@ use std::test::Fail;
 use upload_frame::Reply;
 use uploader_core::are_own;
 
+mod pumping;
+mod workers;
+
 const WIDTH: u16 = 8;
 
 fn column(epoch: u32, index: u16, bytes: u32) -> Option<Column> {
