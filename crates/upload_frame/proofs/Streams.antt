@@ -38,7 +38,7 @@ faulty f = Err f
 settled_by : {F : Type 0} (a b : Front F) → a ≡ b → IsSettled b → IsSettled a
 settled_by a b e s = subst IsSettled (sym e) s
 
-took_more : {F : Type 0} (format : Format F) (stream : List ℕ) (fs : List F) (rest piece : List ℕ) → Took format stream fs rest
+pub took_more : {F : Type 0} (format : Format F) (stream : List ℕ) (fs : List F) (rest piece : List ℕ) → Took format stream fs rest
     → Took format (stream ++ piece) fs (rest ++ piece)
 took_more format stream [] rest piece h = ap (λ (x : List ℕ). x ++ piece) h
 took_more format stream (f ∷ fs) rest piece h =
@@ -48,7 +48,7 @@ took_more format stream (f ∷ fs) rest piece h =
     let d : drop h.0 (stream ++ piece) ≡ drop h.0 stream ++ piece = drop-append-le h.0 stream piece within.1 in
     (h.0, e, subst (λ (x : List ℕ). Took format x fs (rest ++ piece)) (sym d) (took_more format (drop h.0 stream) fs rest piece h.2))
 
-took_one : {F : Type 0} (format : Format F) (stream : List ℕ) (fs : List F) (rest : List ℕ) (f : F) (k : ℕ) → Took format stream fs rest
+pub took_one : {F : Type 0} (format : Format F) (stream : List ℕ) (fs : List F) (rest : List ℕ) (f : F) (k : ℕ) → Took format stream fs rest
     → front_at format rest ≡ found f k → Took format stream (fs ++ f ∷ []) (drop k rest)
 took_one format stream [] rest f k h e = (k, ap (front_at format) h ∙ e, ap (drop k) h)
 took_one format stream (g ∷ fs) rest f k h e = (h.0, h.1, took_one format (drop h.0 stream) fs rest f k h.2 e)
