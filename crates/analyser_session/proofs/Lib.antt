@@ -1,0 +1,9 @@
+pub mod Stepping
+pub mod Applying
+pub mod Seen
+pub mod Tying
+pub mod Added
+pub mod Resting
+pub mod OneCourse
+pub mod Heard
+pub mod Serving

@@ -1,0 +1,5 @@
+pub mod Answered
+pub mod Reads
+pub mod Hearing
+pub mod Ties
+pub mod Sessions
