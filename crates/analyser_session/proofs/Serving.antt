@@ -237,6 +237,12 @@ module _ (shape : Shape) (room : ℕ) (v w : View) (s0 s k0 k : Option (List ℕ
       let keeps = kept_more v w w' (length i.answered) (omega (arith, room_left, i.number)) run (answer_keeps shape room f w w' (Err e) a) in
       stopped w' s' n.piece faults.Memory (omega (arith, room_left)) keeps n.near n.consumed (inr (f, e, a)) (inl i.written) (inl i.none)
 
+  -- It stopped, and the pass is as it was.
+  still : (s' : Option (List ℕ)) (piece : List ℕ) (d : SessionFault) → nth ≤ MOST_SESSION_FRAMES → length (r.rest ++ piece) ≤ 5097
+      → Consumes s s' piece → Writes (Err d) k0 k i.replies → Stops (Err d) s' (length (i.taken ++ piece)) i.answered (r.rest ++ piece)
+      → Session shape room v w s0 s' k0 k (Err d)
+  still s' piece d few near consumed writes stops = stopped w s' piece d few (same_pass few) near consumed (inl refl) writes stops
+
   -- No frame was taken.
   pub exit_next : (s' : Option (List ℕ)) (r' : ReaderData) (count' : ℕ) (e : SessionFault) → nth < MOST_SESSION_FRAMES
       → Next s s' r r' count count' (Err e) → Session shape room v w s0 s' k0 k (Err e)
@@ -244,22 +250,24 @@ module _ (shape : Shape) (room : ℕ) (v w : View) (s0 s k0 k : Option (List ℕ
       let less : length i.answered < MOST_SESSION_FRAMES = omega (arith, i.number, room_left) in
       let size : at + length (r.rest ++ n.piece) ≡ length (i.taken ++ n.piece) =
       omega (arith, n.gets.1, i.whole, length-append i.taken n.piece, length-append r.rest n.piece) in
-      stopped w s' n.piece (faults.Frame at fault) (omega (arith, room_left)) (same_pass (omega (arith, room_left))) n.near n.consumed (inl refl) i.written ((i.none, less), n.gets.0, size)
+      still s' n.piece (faults.Frame at fault) (omega (arith, room_left)) n.near n.consumed i.written ((i.none, less), n.gets.0, size)
   exit_next s' r' count' (faults.Early at) room_left n =
       let less : length i.answered < MOST_SESSION_FRAMES = omega (arith, i.number, room_left) in
       let size : at ≡ length (i.taken ++ n.piece) = omega (arith, n.gets.1, n.count, i.size, length-append i.taken n.piece) in
-      stopped w s' n.piece (faults.Early at) (omega (arith, room_left)) (same_pass (omega (arith, room_left))) n.near n.consumed (inl refl) i.written ((i.none, less), n.gets.0, size, n.gets.2)
+      still s' n.piece (faults.Early at) (omega (arith, room_left)) n.near n.consumed i.written ((i.none, less), n.gets.0, size, n.gets.2)
   exit_next s' r' count' faults.TooMany room_left n = absurd n.gets
   exit_next s' r' count' faults.ReadFault room_left n =
       let less : length i.answered < MOST_SESSION_FRAMES = omega (arith, i.number, room_left) in
-      stopped w s' n.piece faults.ReadFault (omega (arith, room_left)) (same_pass (omega (arith, room_left))) n.near n.consumed (inl refl) i.written (i.none, less)
+      still s' n.piece faults.ReadFault (omega (arith, room_left)) n.near n.consumed i.written (i.none, less)
   exit_next s' r' count' faults.WriteFault room_left n = absurd n.gets
   exit_next s' r' count' faults.Memory room_left n =
-      stopped w s' n.piece faults.Memory (omega (arith, room_left)) (same_pass (omega (arith, room_left))) n.near n.consumed (inl refl) (inl i.written) (inl i.none)
+      still s' n.piece faults.Memory (omega (arith, room_left)) n.near n.consumed (inl i.written) (inl i.none)
 
   -- As many frames as a session has.
   pub exit_many : nth ≡ MOST_SESSION_FRAMES → Session shape room v w s0 s k0 k (Err faults.TooMany)
-  exit_many is = stopped w s [] faults.TooMany (omega (arith, is)) (same_pass (omega (arith, is))) (omega (arith, i.small, length-append r.rest [])) (Consumes-nil s) (inl refl) i.written (i.none, i.number ∙ is)
+  exit_many is =
+      let near : length (r.rest ++ []) ≤ 5097 = omega (arith, i.small, length-append r.rest []) in
+      still s [] faults.TooMany (omega (arith, is)) near (Consumes-nil s) i.written (i.none, i.number ∙ is)
 
 pub which_of : {P : Type 0} (e : SessionFault) → (e ≡ faults.Memory) ⊎ ((e ≡ faults.WriteFault) × P) → (e ≡ faults.Memory) ⊎ (e ≡ faults.WriteFault)
 which_of e (inl is) = inl is

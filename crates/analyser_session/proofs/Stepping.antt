@@ -67,7 +67,8 @@ few_bytes s e = by ((fronts frames).unfinished s e)
     by (inr (inr part)) = omega (arith, part.fewer, part.first.1)
 
 -- a reader to which a piece was fed
-pub grown : (r0 r1 r2 : ReaderData) (p : List ℕ) → r0.fault ≡ None → r1 ≡ r0 → r2 ≡ fed r1 p → (r2.fault ≡ None) × (r2.rest ≡ r0.rest ++ p) × (r2.taken ≡ r0.taken)
+pub grown : (r0 r1 r2 : ReaderData) (p : List ℕ) → r0.fault ≡ None → r1 ≡ r0 → r2 ≡ fed r1 p
+    → (r2.fault ≡ None) × (r2.rest ≡ r0.rest ++ p) × (r2.taken ≡ r0.taken)
 grown r0 r1 r2 p clear same e =
     let all = e ∙ ap (λ (r : ReaderData). fed r p) same ∙ ap (fed_with r0 p) clear in
     (ap (λ (r : ReaderData). r.fault) all ∙ clear, ap (λ (r : ReaderData). r.rest) all, ap (λ (r : ReaderData). r.taken) all)

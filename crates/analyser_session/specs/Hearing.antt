@@ -17,8 +17,9 @@ use Rattle.analyser_session.specs.Answered.{EndsWithBye, IsOpenEnded, NoBye}
 abbrev pub GoesOn : List Frame → Type 0
 GoesOn fs = NoBye fs × (length fs < MOST_SESSION_FRAMES)
 
--- Why it stopped: by the frames answered, the bytes after them, how many bytes were taken, and what the source has left.
-abbrev pub Stops : Result Served SessionFault → (end : Option (List ℕ)) → (taken : ℕ) → List Frame → (rest : List ℕ) → Type 0
+-- Why it stopped: by what the source has left, the number of bytes taken, the frames answered and the bytes after them.
+abbrev pub Stops : Result Served SessionFault → (end : Option (List ℕ)) → (taken : ℕ) → List Frame → (rest : List ℕ)
+    → Type 0
 Stops (Ok s) end taken fs rest = EndsWithBye fs × (s.frames ≡ length fs)
 Stops (Err (faults.Frame at fault)) end taken fs rest = GoesOn fs × (front_at frames rest ≡ Err fault) × (at + length rest ≡ taken)
 Stops (Err (faults.Early at)) end taken fs rest = GoesOn fs × (front_at frames rest ≡ Ok None) × (at ≡ taken) × IsAtEnd end
@@ -45,20 +46,22 @@ pub record ComesTo (input : List ℕ) (answer : Result Served SessionFault) (fs 
   pub stops : Stops answer (Some []) (length input) fs rest
   pub decided : IsOfInput answer
 
--- A session over an input answers the frames that it comes to, or the first ones of them, and its answer is what the input
--- comes to, unless the outside failed or memory ran out.
+-- A session over an input answers the frames that it comes to, or the first ones of them, and its answer is what the
+-- input comes to, unless the outside failed or memory ran out.
 pub record HearsInput (input : List ℕ) (result : Result Served SessionFault) (fs : List Frame) : Type 0 where
   pub front : (answer : Result Served SessionFault) (gs : List Frame) → ComesTo input answer gs → IsPrefix fs gs
-  pub exactly : (answer : Result Served SessionFault) (gs : List Frame) → ComesTo input answer gs → IsOfInput result → (fs ≡ gs) × (result ≡ answer)
+  pub exactly : (answer : Result Served SessionFault) (gs : List Frame) → ComesTo input answer gs → IsOfInput result
+      → (fs ≡ gs) × (result ≡ answer)
 
 -- The same, where the source tells its bytes.
 abbrev pub HearsTold : Option (List ℕ) → Result Served SessionFault → List Frame → Type 0
 HearsTold None result fs = Unit {0}
 HearsTold (Some input) result fs = HearsInput input result fs
 
--- A session took these frames off the source, and what stands after them, or the outside, ended it. It took no more than
--- a piece after bytes that are no whole frame.
-pub record Hears (source_old source_new : Option (List ℕ)) (result : Result Served SessionFault) (fs : List Frame) : Type 0 where
+-- A session took these frames off the source, and what stands after them, or the outside, ended it. Of the bytes after
+-- them it took no more than a piece and a frame have.
+pub record Hears (source_old source_new : Option (List ℕ)) (result : Result Served SessionFault) (fs : List Frame)
+    : Type 0 where
   pub taken : List ℕ
   pub rest : List ℕ
   pub consumed : Consumes source_old source_new taken
@@ -71,4 +74,5 @@ pub record Hears (source_old source_new : Option (List ℕ)) (result : Result Se
 -- Every input comes to something, and to one thing alone.
 pub record LawOfInputs : Type 0 where
   pub some : (input : List ℕ) → (answer : Result Served SessionFault) × (fs : List Frame) × ComesTo input answer fs
-  pub one : (input : List ℕ) (a b : Result Served SessionFault) (fs gs : List Frame) → ComesTo input a fs → ComesTo input b gs → (fs ≡ gs) × (a ≡ b)
+  pub one : (input : List ℕ) (a b : Result Served SessionFault) (fs gs : List Frame) → ComesTo input a fs
+      → ComesTo input b gs → (fs ≡ gs) × (a ≡ b)

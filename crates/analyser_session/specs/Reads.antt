@@ -17,7 +17,8 @@ pub record IsOpen (r : ReaderData) : Type 0 where
 -- What the bytes at hand say: a frame at their front, its first fault, or too few bytes with nothing left.
 abbrev pub Gets : Option (List ℕ) → List ℕ → (before taken : ℕ) → ReaderData → Result Frame SessionFault → Type 0
 Gets end bytes before taken r (Ok f) =
-    (k : ℕ) × (front_at frames bytes ≡ Ok (Some (f, k))) × (r ≡ reader_of (drop k bytes) (before + k) None) × (length (drop k bytes) ≤ 5097)
+    (k : ℕ) × (front_at frames bytes ≡ Ok (Some (f, k))) × (r ≡ reader_of (drop k bytes) (before + k) None)
+    × (length (drop k bytes) ≤ 5097)
 Gets end bytes before taken r (Err (faults.Frame at fault)) = (front_at frames bytes ≡ Err fault) × (at ≡ before)
 Gets end bytes before taken r (Err (faults.Early at)) = (front_at frames bytes ≡ Ok None) × (at ≡ taken) × IsAtEnd end
 Gets end bytes before taken r (Err faults.TooMany) = ⊥
@@ -26,7 +27,8 @@ Gets end bytes before taken r (Err faults.WriteFault) = ⊥
 Gets end bytes before taken r (Err faults.Memory) = Unit {0}
 
 -- The next frame was asked for: these bytes more were taken off the source.
-pub record Next (old new : Option (List ℕ)) (before after : ReaderData) (count_before count_after : ℕ) (result : Result Frame SessionFault) : Type 0 where
+pub record Next (old new : Option (List ℕ)) (before after : ReaderData) (count_before count_after : ℕ)
+    (result : Result Frame SessionFault) : Type 0 where
   pub piece : List ℕ
   pub consumed : Consumes old new piece
   pub near : length (before.rest ++ piece) ≤ 5097

@@ -40,9 +40,9 @@ pub record IsDecided (shape : Shape) (room : ℕ) (low whole : List Entry) (u : 
   pub inside : IsPrefix list whole
   pub reply : r ≡ reply_to u (decide shape room (records list) u)
 
--- Each upload is decided on a beginning of what the pass has seen at the exit. It begins with the list that the last upload
--- left, what was stored at its end; or the upload marked the pass, and it and all uploads after it are closed. The pass
--- has no mark at the exit where none was closed.
+-- Each upload is decided on a beginning of what the pass has seen at the exit. It begins with the list that the last
+-- upload left, with what was stored at its end; or the upload marked the pass, and it and all uploads after it are
+-- closed. Where none was closed, the pass has no mark at the exit.
 abbrev pub AreDecided : Shape → (room : ℕ) → (exit : View) → (low : List Entry) → List Frame → List Reply → Type 0
 AreDecided shape room w low [] [] = IsPrefix low w.seen × (w.mark ≡ Clear)
 AreDecided shape room w low [] (r ∷ rs) = ⊥
@@ -54,13 +54,14 @@ AreDecided shape room w low (Upload u ∷ fs) (r ∷ rs) =
     ⊎ ((r ≡ refusal u why.Closed) × IsPrefix low w.seen × Marked w.mark × AllClosed shape fs rs)
 
 -- The entry is what an upload among the frames becomes on that list.
-pub record IsStoredFor (shape : Shape) (room number : ℕ) (list : List Entry) (e : Entry) (fs : List Frame) : Type 0 where
+pub record IsStoredFor (shape : Shape) (room number : ℕ) (list : List Entry) (e : Entry) (fs : List Frame)
+    : Type 0 where
   pub upload : UploadData
   pub among : Contains fs (Upload upload)
   pub stored : after shape room list number upload ≡ list ++ e ∷ []
 
--- How replies are tied to what the pass had seen and has seen: those to uploads, the entries of its number that are new,
--- and the entry that a mark set here carries.
+-- How a session is tied to what its pass had seen and has seen: the replies to uploads, the entries of its number that
+-- are new, and the entry that a mark set here carries.
 pub record IsTied (shape : Shape) (room : ℕ) (v w : View) (fs : List Frame) (rs : List Reply) : Type 0 where
   pub decided : v.mark ≡ Clear → AreDecided shape room w v.seen fs rs
   pub closed : Marked v.mark → AllClosed shape fs rs

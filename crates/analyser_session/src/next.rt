@@ -17,7 +17,8 @@ fn next_piece<S: Source>(
 ) -> Result<usize, SessionFault>
     ensures count { IfOk result (λ n. n ≤ 4096) }
     ensures long { length buf.new ≡ 4096 }
-    ensures bytes { IfOk result (λ n. Consumes (S.left source.old) (S.left source.new) (take n buf.new) × (n ≡ 0 → IsAtEnd (S.left source.new))) }
+    ensures bytes { IfOk result (λ n. Consumes (S.left source.old) (S.left source.new) (take n buf.new)
+        × (n ≡ 0 → IsAtEnd (S.left source.new))) }
     ensures kept { OnErr result (Keeps (S.left source.old) (S.left source.new)) }
     ensures fault { IfErr result (λ e. (e ≡ ReadFault) × Rose (S.faults source.old) (S.faults source.new)) }
     ensures never_falls { S.faults source.old ≤ S.faults source.new }

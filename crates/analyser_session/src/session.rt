@@ -29,7 +29,8 @@ fn is_bye(frame: &Frame) -> bool
 fn send<K: Sink>(alloc: Global, sink: &mut K, reply: &Reply) -> Result<(), SessionFault>
     ensures ok { OnOk result (Appends (K.written sink.old) (K.written sink.new) (reply_bytes reply.now)) }
     ensures err { OnErr result (AppendsFront (K.written sink.old) (K.written sink.new) (reply_bytes reply.now)) }
-    ensures fault { IfErr result (λ e. (e ≡ Memory) ⊎ ((e ≡ WriteFault) × Rose (K.faults sink.old) (K.faults sink.new))) }
+    ensures fault { IfErr result (λ e.
+        (e ≡ Memory) ⊎ ((e ≡ WriteFault) × Rose (K.faults sink.old) (K.faults sink.new))) }
     ensures never_falls { K.faults sink.old ≤ K.faults sink.new }
 {
     let Ok(bytes) = write_reply(alloc, reply) else {
@@ -65,7 +66,8 @@ pub fn serve_session<D: Disk, R: Wait, S: Source, K: Sink>(
     requires book { pass.old.book ≡ book.now.id }
     requires left { pass.old.view.begun + MOST_SESSION_FRAMES ≤ most_calls }
     ensures book { pass.new.book ≡ pass.old.book }
-    ensures session { Session book.now.first.shape book.now.first.room pass.old.view pass.new.view (S.left source.old) (S.left source.new) (K.written sink.old) (K.written sink.new) result }
+    ensures session { Session book.now.first.shape book.now.first.room pass.old.view pass.new.view
+        (S.left source.old) (S.left source.new) (K.written sink.old) (K.written sink.new) result }
     ensures read_fault { IfErr result (λ e. e ≡ ReadFault → Rose (S.faults source.old) (S.faults source.new)) }
     ensures write_fault { IfErr result (λ e. e ≡ WriteFault → Rose (K.faults sink.old) (K.faults sink.new)) }
     ensures never_falls { (S.faults source.old ≤ S.faults source.new) × (K.faults sink.old ≤ K.faults sink.new) }

@@ -20,7 +20,8 @@ loop-frame-preserved g c =
       small = omega (arith, size, few, long, b.count);
       same = after.2 ∙ i.same;
       piece = i.piece ++ p;
-      consumed = Consumes-trans (g.S.Source.left c.args.source.now) (g.S.Source.left c.loop-frame.source) (g.S.Source.left c.next_piece.new.source) i.piece p i.consumed b.bytes.0;
+      consumed = Consumes-trans (g.S.Source.left c.args.source.now) (g.S.Source.left c.loop-frame.source)
+          (g.S.Source.left c.next_piece.new.source) i.piece p i.consumed b.bytes.0;
       rest = after.1 ∙ ap (λ (xs : List ℕ). xs ++ p) i.rest ∙ append_assoc c.args.reader.now.rest i.piece p;
       count = omega (arith, i.count, long, length-append i.piece p);
       long = b.long;
@@ -39,7 +40,8 @@ returns-in-Err-clause-next g c =
     let long : length p ≡ c.in_ok-count.count = length-take-le c.in_ok-count.count c.next_piece.new.buf fits in
     record {
       piece = i.piece ++ p;
-      consumed = Consumes-trans (g.S.Source.left c.args.source.now) (g.S.Source.left c.loop-frame.source) (g.S.Source.left c.next_piece.new.source) i.piece p i.consumed b.bytes.0;
+      consumed = Consumes-trans (g.S.Source.left c.args.source.now) (g.S.Source.left c.loop-frame.source)
+          (g.S.Source.left c.next_piece.new.source) i.piece p i.consumed b.bytes.0;
       count = omega (arith, i.count, long, length-append i.piece p);
       near = omega (
         arith,
