@@ -24,7 +24,7 @@ use Rattle.analyser_session.specs.declared.served.Served.{Served}
 use Rattle.analyser_session.specs.Answered.{Answers, is_bye, KeepsPass, NoBye, Rests}
 use Rattle.analyser_session.specs.Reads.{Next}
 use Rattle.analyser_session.specs.Hearing.{Stops}
-use Rattle.analyser_session.specs.Sessions.{CutShort, replies_bytes, Session, Writes}
+use Rattle.analyser_session.specs.Sessions.{CutShort, LacksLast, replies_bytes, Session, Writes}
 use Rattle.analyser_session.proofs.Heard.{told}
 use Rattle.analyser_session.proofs.OneCourse.{none_push, open_push}
 use Rattle.analyser_session.proofs.Resting.{kept, kept_more, ties}
@@ -173,8 +173,8 @@ module _ (shape : Shape) (room : ℕ) (v w : View) (s0 s k0 k : Option (List ℕ
   -- A reply was not written whole.
   pub exit_send : (w' : View) (s' k' : Option (List ℕ)) (r' : ReaderData) (count' : ℕ) (f : Frame) (reply : Reply) (e : SessionFault)
       → nth < MOST_SESSION_FRAMES → Next s s' r r' count count' (Ok f) → IsAnswer shape room f w w' (Ok reply) → AppendsFront k k' (reply_bytes reply)
-      → (e ≡ faults.Memory) ⊎ (e ≡ faults.WriteFault) → Session shape room v w' s0 s' k0 k' (Err e)
-  exit_send w' s' k' r' count' f reply e room_left n a out which = by which
+      → (e ≡ faults.Memory → k' ≡ k) → (e ≡ faults.Memory) ⊎ (e ≡ faults.WriteFault) → Session shape room v w' s0 s' k0 k' (Err e)
+  exit_send w' s' k' r' count' f reply e room_left n a out same which = by which
     where
       cut : CutShort k0 k' (i.replies ++ reply ∷ [])
       cut = record {
@@ -186,10 +186,18 @@ module _ (shape : Shape) (room : ℕ) (v w : View) (s0 s k0 k : Option (List ℕ
         written = Appends-trans k0 k k' (replies_bytes i.replies) (take out.0 (reply_bytes reply)) i.written out.2;
       }
 
+      lacks : e ≡ faults.Memory → LacksLast k0 k' (i.replies ++ reply ∷ [])
+      lacks is = record {
+        whole = i.replies;
+        last = reply;
+        parts = refl;
+        written = subst (λ (x : Option (List ℕ)). Appends k0 x (replies_bytes i.replies)) (sym (same is)) i.written;
+      }
+
       by : (e ≡ faults.Memory) ⊎ (e ≡ faults.WriteFault) → Session shape room v w' s0 s' k0 k' (Err e)
       by (inl is) =
           subst (λ (d : SessionFault). Session shape room v w' s0 s' k0 k' (Err d)) (sym is)
-          (ended w' s' k' r' count' f reply (Err faults.Memory) room_left n a (inr cut) (λ taken rest. open_push i.answered f i.none))
+          (ended w' s' k' r' count' f reply (Err faults.Memory) room_left n a (inr (lacks is)) (λ taken rest. open_push i.answered f i.none))
       by (inr is) =
           subst (λ (d : SessionFault). Session shape room v w' s0 s' k0 k' (Err d)) (sym is)
           (ended w' s' k' r' count' f reply (Err faults.WriteFault) room_left n a cut (λ taken rest. open_push i.answered f i.none))

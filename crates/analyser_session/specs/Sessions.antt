@@ -25,8 +25,15 @@ pub record CutShort (old new : Option (List ℕ)) (rs : List Reply) : Type 0 whe
   pub front : count ≤ length (reply_bytes last)
   pub written : Appends old new (replies_bytes whole ++ take count (reply_bytes last))
 
+-- All replies but the last were written, and nothing of the last.
+pub record LacksLast (old new : Option (List ℕ)) (rs : List Reply) : Type 0 where
+  pub whole : List Reply
+  pub last : Reply
+  pub parts : rs ≡ whole ++ last ∷ []
+  pub written : Appends old new (replies_bytes whole)
+
 -- The replies were written, each before the next frame was answered: at a fault of the sink all but the end of the last
--- one, and where no memory was found perhaps too.
+-- one, and where memory ran out all, or all but the last one.
 abbrev pub Writes : Result Served SessionFault → (old new : Option (List ℕ)) → List Reply → Type 0
 Writes (Ok s) old new rs = Appends old new (replies_bytes rs)
 Writes (Err (faults.Frame at fault)) old new rs = Appends old new (replies_bytes rs)
@@ -34,7 +41,7 @@ Writes (Err (faults.Early at)) old new rs = Appends old new (replies_bytes rs)
 Writes (Err faults.TooMany) old new rs = Appends old new (replies_bytes rs)
 Writes (Err faults.ReadFault) old new rs = Appends old new (replies_bytes rs)
 Writes (Err faults.WriteFault) old new rs = CutShort old new rs
-Writes (Err faults.Memory) old new rs = Appends old new (replies_bytes rs) ⊎ CutShort old new rs
+Writes (Err faults.Memory) old new rs = Appends old new (replies_bytes rs) ⊎ LacksLast old new rs
 
 -- A session, from one state of the pass, the source and the sink to another.
 pub record Session (shape : Shape) (room : ℕ) (v w : View) (source_old source_new sink_old sink_new : Option (List ℕ))

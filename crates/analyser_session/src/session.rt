@@ -29,6 +29,7 @@ fn is_bye(frame: &Frame) -> bool
 fn send<K: Sink>(alloc: Global, sink: &mut K, reply: &Reply) -> Result<(), SessionFault>
     ensures ok { OnOk result (Appends (K.written sink.old) (K.written sink.new) (reply_bytes reply.now)) }
     ensures err { OnErr result (AppendsFront (K.written sink.old) (K.written sink.new) (reply_bytes reply.now)) }
+    ensures memory { IfErr result (λ e. e ≡ Memory → K.written sink.new ≡ K.written sink.old) }
     ensures fault { IfErr result (λ e.
         (e ≡ Memory) ⊎ ((e ≡ WriteFault) × Rose (K.faults sink.old) (K.faults sink.new))) }
     ensures never_falls { K.faults sink.old ≤ K.faults sink.new }
@@ -42,7 +43,7 @@ fn send<K: Sink>(alloc: Global, sink: &mut K, reply: &Reply) -> Result<(), Sessi
     }
 }
 
-/// Serves one session: takes frames off the source, answers each over the pass (docs/DEFINITIONS.md, Replies), and writes
+/// Serves one session: takes frames off the source, answers each over the pass (docs/DEFINITIONS.md, Shared book), and writes
 /// its reply before the next one is answered. It reads in pieces of at most 4,096 bytes, and only where no frame is there.
 /// The pass has 1,000,000 calls left.
 ///

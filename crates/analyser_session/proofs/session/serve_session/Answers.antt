@@ -31,7 +31,7 @@ returns-in_err-send-clause-session g c =
     let s = c.in_err-send in
     rw (p.1, p.2)
     (exit_send _ _ _ _ _ _ _ _ _ _ _ i _ _ _ _ _ c.in_ok-frame.frame c.in-Ok.reply s.field-0.0 c.loop-nth-test.true c.in_ok-frame.ensures.next
-    c.in-Ok.ensures.answers s.ensures.err (which_of s.field-0.0 s.ensures.fault))
+    c.in-Ok.ensures.answers s.ensures.err s.ensures.memory (which_of s.field-0.0 s.ensures.fault))
 
 pub returns-then-is_bye-clause-session : goal.returns-then-is_bye-clause-session
 returns-then-is_bye-clause-session g c =
