@@ -17,12 +17,13 @@ pub returns-in_err-frame-clause-session : goal.returns-in_err-frame-clause-sessi
 returns-in_err-frame-clause-session g c =
     let p = err_from_is_err_and c.from_residual.result c.from_residual.ensures.1 in
     let i = c.loop-nth.invariant.going in
-    rw (p.1, p.2) (exit_next _ _ _ _ _ _ _ _ _ _ _ i _ _ _ _ c.loop-nth-test.true c.in_err-frame.ensures.next)
+    rw (p.1, p.2) (exit_next _ _ _ _ _ _ _ _ _ _ _ i _ _ _ _ (omega (arith, c.loop-nth-test.true)) c.in_err-frame.ensures.next)
 
 pub returns-in_default-clause-session : goal.returns-in_default-clause-session
 returns-in_default-clause-session g c =
     let i = c.loop-nth.invariant.going in
-    exit_answer _ _ _ _ _ _ _ _ _ _ _ i _ _ _ _ c.in_ok-frame.frame _ c.loop-nth-test.true c.in_ok-frame.ensures.next c.in_default.ensures.answers
+    exit_answer _ _ _ _ _ _ _ _ _ _ _ i _ _ _ _ c.in_ok-frame.frame _ (omega (arith, c.loop-nth-test.true)) c.in_ok-frame.ensures.next
+    c.in_default.ensures.answers
 
 pub returns-in_err-send-clause-session : goal.returns-in_err-send-clause-session
 returns-in_err-send-clause-session g c =
@@ -30,14 +31,14 @@ returns-in_err-send-clause-session g c =
     let i = c.loop-nth.invariant.going in
     let s = c.in_err-send in
     rw (p.1, p.2)
-    (exit_send _ _ _ _ _ _ _ _ _ _ _ i _ _ _ _ _ c.in_ok-frame.frame c.in-Ok.reply s.field-0.0 c.loop-nth-test.true c.in_ok-frame.ensures.next
-    c.in-Ok.ensures.answers s.ensures.err s.ensures.memory (which_of s.field-0.0 s.ensures.fault))
+    (exit_send _ _ _ _ _ _ _ _ _ _ _ i _ _ _ _ _ c.in_ok-frame.frame c.in-Ok.reply s.field-0.0 (omega (arith, c.loop-nth-test.true))
+    c.in_ok-frame.ensures.next c.in-Ok.ensures.answers s.ensures.err s.ensures.memory (which_of s.field-0.0 s.ensures.fault))
 
 pub returns-then-is_bye-clause-session : goal.returns-then-is_bye-clause-session
 returns-then-is_bye-clause-session g c =
     let i = c.loop-nth.invariant.going in
-    exit_bye _ _ _ _ _ _ _ _ _ _ _ i _ _ _ _ _ c.in_ok-frame.frame c.in-Ok.reply (record { frames = c.loop-nth.nth + 1 }) c.loop-nth-test.true
-    c.in_ok-frame.ensures.next c.in-Ok.ensures.answers c.in_ok-send.ensures.ok (sym c.is_bye.ensures ∙ c.if-is_bye.true) refl
+    exit_bye _ _ _ _ _ _ _ _ _ _ _ i _ _ _ _ _ c.in_ok-frame.frame c.in-Ok.reply (record { frames = c.loop-nth.nth + 1 })
+    (omega (arith, c.loop-nth-test.true)) c.in_ok-frame.ensures.next c.in-Ok.ensures.answers c.in_ok-send.ensures.ok (sym c.is_bye.ensures ∙ c.if-is_bye.true) refl
 
 pub loop-nth-preserved : goal.loop-nth-preserved
 loop-nth-preserved g c =
