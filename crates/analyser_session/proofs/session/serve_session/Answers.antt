@@ -38,7 +38,8 @@ pub returns-then-is_bye-clause-session : goal.returns-then-is_bye-clause-session
 returns-then-is_bye-clause-session g c =
     let i = c.loop-nth.invariant.going in
     exit_bye _ _ _ _ _ _ _ _ _ _ _ i _ _ _ _ _ c.in_ok-frame.frame c.in-Ok.reply (record { frames = c.loop-nth.nth + 1 })
-    (omega (arith, c.loop-nth-test.true)) c.in_ok-frame.ensures.next c.in-Ok.ensures.answers c.in_ok-send.ensures.ok (sym c.is_bye.ensures ∙ c.if-is_bye.true) refl
+    (omega (arith, c.loop-nth-test.true)) c.in_ok-frame.ensures.next c.in-Ok.ensures.answers c.in_ok-send.ensures.ok
+    (sym c.is_bye.ensures ∙ c.if-is_bye.true) refl
 
 pub loop-nth-preserved : goal.loop-nth-preserved
 loop-nth-preserved g c =
