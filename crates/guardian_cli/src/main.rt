@@ -2,7 +2,7 @@
 #![tactic(auto)]
 
 use guardian_run::guardian;
-use lg_base::{StdSink, StdSource};
+use lg_base::{OpenGate, StdSink, StdSource};
 use lg_disk::FileDisk;
 use std::process::ExitCode;
 use std::rt::Env;
@@ -30,6 +30,14 @@ fn main(rt: HostRuntime) -> ExitCode {
     let mut source = StdSource::new(rt.reader());
     let mut sink = StdSink::new(io::writer(&rt));
     let disk = FileDisk::at(&rt, BOOK);
-    let (status, _) = guardian(rt.alloc(), &words, &mut source, &mut sink, disk);
+    let (status, _) = guardian(
+        rt.alloc(),
+        &rt,
+        &words,
+        &mut source,
+        &mut sink,
+        disk,
+        &OpenGate,
+    );
     ExitCode::from(status.code())
 }

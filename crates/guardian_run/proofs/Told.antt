@@ -30,7 +30,7 @@ use Rattle.guardian_run.specs.declared.status.Status.{Status}
 use Rattle.guardian_run.specs.declared.status.Status.TheVariants as status
 use Rattle.guardian_run.specs.declared.telling.Told.{Told}
 use Rattle.guardian_run.specs.declared.telling.Told.TheVariants as told
-use Rattle.guardian_run.specs.Sending.{acks_by, lines_of, IsFine, HasMet, CanBeMet, AllCanBeMet, HaveSent}
+use Rattle.guardian_run.specs.Sending.{acks_by, lines_of, IsFine, HasMet, IsFirstMet, CanBeMet, AllCanBeMet, HaveSent}
 use Rattle.guardian_run.specs.Running.{acked_lines, RunSays}
 use Rattle.lg_base.specs.declared.faults.Memory.{Memory}
 use Rattle.guardian_run.specs.Telling.{status_told, text_told, CanBeTold, TellsStop, Concludes, HasRun}
@@ -47,6 +47,9 @@ records_begin xs ys p = (records p.0, sym (map-append (λ (e : Entry). e.stored)
 first_of : {X Y Z : Type 0} → (f : X → Y × Z) (xs : List X) → map (λ (p : Y × Z). p.0) (map f xs) ≡ map (λ (x : X). (f x).0) xs
 first_of f [] = refl
 first_of {X} {Y} f (x ∷ xs) = ap (λ (ys : List Y). (f x).0 ∷ ys) (first_of f xs)
+
+any_first : (f : WorkFault) (ss : List Sender) → IsFirstMet f ss → Any (HasMet f) ss
+any_first f ss m = (m.at, m.sender, m.inside, m.here, m.met)
 
 module _ {D : Type 0} (w : Scenario) (old new : JournalState D) (ss : List Sender) (shape : new.shape ≡ old.shape)
     (sent : HaveSent w old.entries new.entries new.fault ss) (rose : Type 0) (cause : (e : Entry) → new.fault ≡ Some e → rose) where
@@ -133,13 +136,13 @@ module _ {D : Type 0} (w : Scenario) (old new : JournalState D) (ss : List Sende
           key = c.1;
           kept = c.2;
           came = c.3;
-          clash = explained fits c.0 (faults.Conflict c.1 c.2 c.3) c.4;
+          clash = explained fits c.0 (faults.Conflict c.1 c.2 c.3) (any_first (Refused c.0 (faults.Conflict c.1 c.2 c.3)) ss c.4);
           is = c.5 ∙ lines (conflict_line c.1 c.2 c.3);
         },
       )
   concluded fits (told.Full text) is =
       let c = is.1 in
-      let why = explained fits c.0 (faults.Full c.1 c.2) c.3 in
+      let why = explained fits c.0 (faults.Full c.1 c.2) (any_first (Refused c.0 (faults.Full c.1 c.2)) ss c.3) in
       ended status.Full text.items (
         no_more new.entries new.fault is.0,
         record {
@@ -163,15 +166,15 @@ can_be_told o (faults.WrongShape kept came) none is = absurd is
 can_be_told o faults.Memory none is = tt
 
 pub told_fault : {D : Type 0} → (j : JournalState D) (ss : List Sender) (q : ℕ) (f : ApplyFault) → j.fault ≡ None → AllCanBeMet j.fault ss →
-    Any (HasMet (Refused q f)) ss → CanBeTold f
-told_fault j ss q f none all any = can_be_told j.fault f none (all q f any)
+    IsFirstMet (Refused q f) ss → CanBeTold f
+told_fault j ss q f none all first = can_be_told j.fault f none (all q f (any_first (Refused q f) ss first))
 
 pub told_stop : {D : Type 0} → (w : Scenario) (j : JournalState D) (ss : List Sender) (q : ℕ) (f : ApplyFault) (r : Result Told Memory) → j.fault ≡ None →
-    AllCanBeMet j.fault ss → Any (HasMet (Refused q f)) ss → IfOk r (TellsStop (flat_map lines_of ss) f) → IfOk r (Concludes w j ss)
-told_stop w j ss q f (Err e) none all any tells = tt
-told_stop w j ss q f (Ok t) none all any tells = by f any (all q f any) t tells
+    AllCanBeMet j.fault ss → IsFirstMet (Refused q f) ss → IfOk r (TellsStop (flat_map lines_of ss) f) → IfOk r (Concludes w j ss)
+told_stop w j ss q f (Err e) none all first tells = tt
+told_stop w j ss q f (Ok t) none all first tells = by f first (all q f (any_first (Refused q f) ss first)) t tells
   where
-    by : (g : ApplyFault) → Any (HasMet (Refused q g)) ss → CanBeMet j.fault g → (t : Told) → TellsStop (flat_map lines_of ss) g t → Concludes w j ss t
+    by : (g : ApplyFault) → IsFirstMet (Refused q g) ss → CanBeMet j.fault g → (t : Told) → TellsStop (flat_map lines_of ss) g t → Concludes w j ss t
     by (faults.Conflict key kept came) has can (told.Conflict text) is = (none, (q, key, kept, came, has, is.1))
     by (faults.Conflict key kept came) has can (told.Report text) is = absurd (cc is.0)
     by (faults.Conflict key kept came) has can (told.Full text) is = absurd (cc is.0)

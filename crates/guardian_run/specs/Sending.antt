@@ -1,5 +1,5 @@
 -- What the hosts of a run send, and what became of it.
-use Rattle.std.specs.Prelude.{◌≡◌, ℕ, ◌<◌, ◌++◌, List, [], length, map, replicate, slice_index_or, Option, None, Some}
+use Rattle.std.specs.Prelude.{◌≡◌, ℕ, ◌<◌, ◌++◌, List, [], length, map, take, replicate, slice_index_or, Option, None, Some}
 use Rattle.std.specs.Prelude.{Result, Ok, Err, Any, All, if◌then◌else◌}
 use Rattle.std.specs.List.{flat_map, range_with_len}
 use Rattle.lg_base.specs.declared.faults.Memory.{Memory}
@@ -79,6 +79,15 @@ IsFine s = s.result ≡ Ok tt
 
 abbrev pub HasMet : WorkFault → Sender → Type 0
 HasMet fault s = s.result ≡ Err fault
+
+-- The first fault that a sender met, in their order: the work of all before it ended well.
+pub record IsFirstMet (fault : WorkFault) (ss : List Sender) : Type 0 where
+  pub at : ℕ
+  pub sender : Sender
+  pub inside : at < length ss
+  pub here : slice_index_or ss at sender ≡ sender
+  pub met : HasMet fault sender
+  pub before : All IsFine (take at ss)
 
 -- A fault of an upload that a worker may have met, where the journal has that fault.
 abbrev pub CanBeMet : Option Entry → ApplyFault → Type 0

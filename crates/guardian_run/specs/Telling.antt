@@ -1,5 +1,5 @@
 -- What a run tells of its uploads.
-use Rattle.std.specs.Prelude.{◌≡◌, ℕ, List, ◌++◌, All, Any, None, Some}
+use Rattle.std.specs.Prelude.{◌≡◌, ℕ, List, ◌++◌, All, None, Some}
 use Rattle.std.specs.List.{flat_map}
 use mathlib.Core.List.{IsPrefix}
 use Rattle.lg_model.specs.Scenario.{Scenario}
@@ -23,7 +23,7 @@ use Rattle.guardian_run.specs.declared.telling.Told.{Told}
 use Rattle.guardian_run.specs.declared.telling.Told.TheVariants as told
 use Rattle.guardian_run.specs.Changes.{Change}
 use Rattle.guardian_run.specs.Ending.{EndsWith, EndsWithLine}
-use Rattle.guardian_run.specs.Sending.{lines_of, IsFine, HasMet}
+use Rattle.guardian_run.specs.Sending.{lines_of, IsFine, IsFirstMet}
 use Rattle.guardian_run.specs.Running.{RunSays}
 
 -- ---- the bytes, and the status
@@ -76,10 +76,10 @@ TellsStop acked (faults.Broken n) t = ⊥
 abbrev pub Concludes : {D : Type 0} → Scenario → JournalState D → List Sender → Told → Type 0
 Concludes w j ss (told.Report text) = (j.fault ≡ None) × All IsFine ss × (text.items ≡ report (content j.entries) w)
 Concludes w j ss (told.Conflict text) = (j.fault ≡ None) × ((q : ℕ) × (key : Key) × (kept : Column) × (came : Column)
-    × Any (HasMet (Refused q (faults.Conflict key kept came))) ss
+    × IsFirstMet (Refused q (faults.Conflict key kept came)) ss
     × (text.items ≡ flat_map lines_of ss ++ conflict_line key kept came))
 Concludes w j ss (told.Full text) = (j.fault ≡ None) × ((q : ℕ) × (held : ℕ) × (more : ℕ)
-    × Any (HasMet (Refused q (faults.Full held more))) ss × (text.items ≡ flat_map lines_of ss ++ full_line held more))
+    × IsFirstMet (Refused q (faults.Full held more)) ss × (text.items ≡ flat_map lines_of ss ++ full_line held more))
 Concludes w j ss (told.DiskFault text) = ((e : Entry) × (j.fault ≡ Some e))
     × (text.items ≡ flat_map lines_of ss ++ disk_fault_line)
 

@@ -3,10 +3,12 @@
 use crate::read_tests::{FOUR_FILE, ONE_FILE, ONE_REST};
 use crate::tests::{FOUR, ONE, joined};
 use crate::{Status, guardian};
-use lg_base::{MemorySink, MemorySource};
+use lg_base::{MemorySink, MemorySource, OpenGate};
 use lg_disk::{Choice, MemoryDisk};
 use std::alloc::Global;
+use std::sync::Wait;
 use std::test::Fail;
+use std::thread::Threads;
 
 // The file of a book with no record, for ONE's network.
 const EMPTY_FILE: &[u8] = b"\x01LGB1\x02\x00\x01\x00\x00\x00\x00\x00\x00\x00\x00\x00\x00";
@@ -40,7 +42,8 @@ const HOSTS: &str = "guardian 1\nshape 2 2 ports\npick turns\nhost 1\nhost 2\nsw
     packet 1 100 10\nend 1\npacket 1 10 1\npacket 2 10 1\nask 1 1 0\ndone\n";
 
 // The status and the output of a command over a disk, and the disk.
-fn told(
+fn told<R: Threads + Wait + Sync>(
+    rt: &R,
     alloc: Global,
     word: &str,
     text: Vec<u8>,
@@ -49,7 +52,7 @@ fn told(
     let words = [String::from_str(alloc, word)?];
     let mut source = MemorySource::new(text, 4096, Vec::new(alloc));
     let mut sink = MemorySink::new(alloc, 4096, Vec::new(alloc));
-    let (status, disk) = guardian(alloc, &words, &mut source, &mut sink, disk);
+    let (status, disk) = guardian(alloc, rt, &words, &mut source, &mut sink, disk, &OpenGate);
     Ok((status, sink.bytes().to_vec(alloc)?, disk))
 }
 
@@ -111,7 +114,7 @@ fn runs_over_a_file(rt: HostRuntime) -> Result<(), Fail> {
         ),
     ] {
         let disk = MemoryDisk::new(alloc, before.to_vec(alloc)?)?;
-        let (found, written, disk) = told(alloc, "run", joined(alloc, head, rest)?, disk)?;
+        let (found, written, disk) = told(&rt, alloc, "run", joined(alloc, head, rest)?, disk)?;
         assert_eq!(rt; found, status, "{rest}");
         assert_eq!(rt; written.as_slice(), output.as_bytes());
         assert_eq!(rt; disk.bytes(), after);
@@ -119,47 +122,54 @@ fn runs_over_a_file(rt: HostRuntime) -> Result<(), Fail> {
     Ok(())
 }
 
-// The lists of a book of no column, of host 1's and of both.
-const LISTS: [&str; 3] = [
-    "columns 0\n",
-    "column 1 0 0 100 10 0 0\ncolumns 1\n",
-    "column 1 0 0 100 10 0 0\ncolumn 1 0 1 0 0 100 10\ncolumns 2\n",
+// The lists of a book of no column, of host 1's, of host 2's, and of both.
+const LISTS: [(usize, &str); 4] = [
+    (0, "columns 0\n"),
+    (1, "column 1 0 0 100 10 0 0\ncolumns 1\n"),
+    (1, "column 1 0 1 0 0 100 10\ncolumns 1\n"),
+    (
+        2,
+        "column 1 0 0 100 10 0 0\ncolumn 1 0 1 0 0 100 10\ncolumns 2\n",
+    ),
 ];
 
 // How many columns the list of a file shows.
-fn listed(alloc: Global, file: Vec<u8>) -> Result<usize, Fail> {
+fn listed<R: Threads + Wait + Sync>(rt: &R, alloc: Global, file: Vec<u8>) -> Result<usize, Fail> {
     let disk = MemoryDisk::new(alloc, file)?;
-    let (status, written, _) = told(alloc, "list", Vec::new(alloc), disk)?;
+    let (status, written, _) = told(rt, alloc, "list", Vec::new(alloc), disk)?;
     if status != Status::Ok {
         return Err("no list".into());
     }
-    for at in 0..3 {
-        if written.as_slice() == LISTS[at].as_bytes() {
-            return Ok(at);
+    for (count, list) in LISTS {
+        if written.as_slice() == list.as_bytes() {
+            return Ok(count);
         }
     }
     Err("another list".into())
 }
 
 // A sync and the length, the calls of creation, and four for each host's upload: each one fails in turn, with all after it.
+// Whichever host's upload comes first.
 #[test]
 fn stopped_at_each_call(rt: HostRuntime) -> Result<(), Fail> {
     let alloc = rt.alloc();
-    let first = "guardian: disk fault\n";
-    let second = "acked 1 0\nguardian: disk fault\n";
+    let none = "guardian: disk fault\n";
+    let first = "acked 1 0\nguardian: disk fault\n";
+    let second = "acked 2 0\nguardian: disk fault\n";
     let answer = "flow 1 switch 1 epoch 0 rows 2 of 2 bytes 100 delay 10\ncolumns 2\n";
     for k in 0..=18 {
         let mut disk = MemoryDisk::new(alloc, Vec::new(alloc))?;
         disk.stop_after(k);
-        let (status, written, disk) = told(alloc, "run", joined(alloc, HOSTS, "")?, disk)?;
-        let (want, output, kept) = if k < 14 {
-            (Status::DiskFault, first, 0)
+        let (status, written, disk) = told(&rt, alloc, "run", joined(alloc, HOSTS, "")?, disk)?;
+        let (want, either, or, kept) = if k < 14 {
+            (Status::DiskFault, none, none, 0)
         } else if k < 18 {
-            (Status::DiskFault, second, 1)
+            (Status::DiskFault, first, second, 1)
         } else {
-            (Status::Ok, answer, 2)
+            (Status::Ok, answer, answer, 2)
         };
-        assert_eq!(rt; (status, written.as_slice()), (want, output.as_bytes()));
+        assert_eq!(rt; status, want);
+        assert!(rt; written.as_slice() == either.as_bytes() || written.as_slice() == or.as_bytes());
         for choice in [
             Choice::AsRead,
             Choice::AsSynced,
@@ -167,9 +177,93 @@ fn stopped_at_each_call(rt: HostRuntime) -> Result<(), Fail> {
             Choice::FillShort(1),
             Choice::FillLong(255),
         ] {
-            let found = listed(alloc, disk.image(&choice)?)?;
+            let found = listed(&rt, alloc, disk.image(&choice)?)?;
             assert!(rt; found == kept || found == kept + 1);
         }
+    }
+    Ok(())
+}
+
+// FOUR's column 0 in four uploads, over a link that loses the first, drops the reply to the second, repeats the third and
+// holds the fourth: the second one's record is stored, and all are acknowledged.
+#[test]
+fn a_link_that_loses_and_repeats(rt: HostRuntime) -> Result<(), Fail> {
+    let alloc = rt.alloc();
+    let text = "guardian 1\nshape 2 1 ports\npick turns\nhost 1\nswitch 1\n\
+        flow 1 10.0.0.1 10.0.0.2 6 2 1 host 1 path 1\nlink 1 xarh\npacket 1 1500 20\nend 1\n\
+        packet 1 100 5\npacket 1 100 5\npacket 1 100 5\npacket 1 100 5\nask 1 1 0\ndone\n";
+    let report = "flow 1 switch 1 epoch 0 rows 2 of 2 bytes 1500 delay 20\ncolumns 1\n";
+    // The record of the upload of number 1.
+    let mut file = ONE_FILE.to_vec(alloc)?;
+    file[23] = 1;
+    let disk = MemoryDisk::new(alloc, Vec::new(alloc))?;
+    let (status, written, disk) = told(&rt, alloc, "run", text.as_bytes().to_vec(alloc)?, disk)?;
+    assert_eq!(rt;
+        (status, written.as_slice()),
+        (Status::Ok, report.as_bytes())
+    );
+    assert_eq!(rt; disk.bytes(), file.as_slice());
+    Ok(())
+}
+
+// 64 hosts, each with the packets of a flow of its own that carry the one column: one record, and the same report.
+#[test]
+fn all_hosts_at_once(rt: HostRuntime) -> Result<(), Fail> {
+    let alloc = rt.alloc();
+    let mut text = b"guardian 1\nshape 2 1 ports\npick turns\n".to_vec(alloc)?;
+    for part in 0..4 {
+        for host in 1..=64 {
+            let line = match part {
+                0 => format!(in alloc; "host {host}\n")?,
+                1 => format!(in alloc;
+                    "flow {host} 10.0.0.1 10.0.0.2 6 2 {host} host {host} path 1\n"
+                )?,
+                2 => format!(in alloc; "link {host} raxh\n")?,
+                _ => format!(in alloc; "packet {host} 1500 20\n")?,
+            };
+            if part == 1 && host == 1 {
+                text.extend_from_slice(b"switch 1\n")?;
+            }
+            if part == 3 && host == 1 {
+                text.extend_from_slice(b"packet 1 1500 20\nend 1\n")?;
+            }
+            text.extend_from_slice(line.as_bytes())?;
+        }
+    }
+    text.extend_from_slice(b"ask 1 1 0\ndone\n")?;
+    let report = "flow 1 switch 1 epoch 0 rows 2 of 2 bytes 1500 delay 20\ncolumns 1\n";
+    let disk = MemoryDisk::new(alloc, Vec::new(alloc))?;
+    let (status, written, _) = told(&rt, alloc, "run", text, disk)?;
+    assert_eq!(rt;
+        (status, written.as_slice()),
+        (Status::Ok, report.as_bytes())
+    );
+    Ok(())
+}
+
+// Both hosts bring a column that is in conflict with the book: whichever comes first, the fault told is the first host's.
+#[test]
+fn a_conflict_of_two_hosts(rt: HostRuntime) -> Result<(), Fail> {
+    let alloc = rt.alloc();
+    let text = "guardian 1\nshape 2 1 ports\npick turns\nhost 1\nhost 2\nswitch 1\n\
+        flow 1 10.0.0.1 10.0.0.2 6 2 1 host 1 path 1\nflow 2 10.0.0.1 10.0.0.2 6 2 1 host 2 path 1\n\
+        packet 1 1600 20\nend 1\npacket 1 100 5\npacket 2 100 5\nask 1 1 0\ndone\n";
+    let differs =
+        "guardian: conflict at switch 1 epoch 0 column 0 kept 1500 20 1500 20 came 1600 20 1600 20\n";
+    for _ in 0..8 {
+        let disk = MemoryDisk::new(alloc, ONE_FILE.to_vec(alloc)?)?;
+        let (status, written, disk) = told(
+            &rt,
+            alloc,
+            "run",
+            text.as_bytes().to_vec(alloc)?,
+            disk,
+        )?;
+        assert_eq!(rt;
+            (status, written.as_slice()),
+            (Status::Conflict, differs.as_bytes())
+        );
+        assert_eq!(rt; disk.bytes(), ONE_FILE);
     }
     Ok(())
 }

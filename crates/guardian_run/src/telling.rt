@@ -1,5 +1,5 @@
 //! What a run tells: the report on the journal's book, or which uploads were acknowledged before one was refused.
-ghost use Rattle.std.specs.Prelude.{◌≡◌, ◌++◌, ◌<◌, length, All, Any, None, IfOk, IfErr, MatchResult};
+ghost use Rattle.std.specs.Prelude.{◌≡◌, ◌++◌, ◌<◌, length, All, None, IfOk, IfErr, MatchResult};
 ghost use Rattle.std.specs.List.{flat_map};
 ghost use Rattle.lg_base.specs.Causes.{Rose};
 ghost use Rattle.scenario_parts.specs.Whole.{IsWhole};
@@ -10,7 +10,7 @@ ghost use Rattle.book_journal.specs.Runs.{IsRun, start_of};
 ghost use Rattle.report_text.specs.Faults.{no_memory_line};
 ghost use Rattle.shared_book.specs.Going.{GoesOn};
 ghost use Rattle.guardian_run.specs.declared.status.Status.TheVariants.{NoMemory};
-ghost use Rattle.guardian_run.specs.Sending.{line_of, lines_of, lines_with, IsFine, HasMet, AllCanBeMet};
+ghost use Rattle.guardian_run.specs.Sending.{line_of, lines_of, lines_with, IsFine, IsFirstMet, AllCanBeMet};
 ghost use Rattle.guardian_run.specs.Telling.{status_told, text_told, CanBeTold, Concludes, TellsStop, HasRun};
 
 use crate::reporting::report;
@@ -99,10 +99,10 @@ fn stopped(alloc: Global, senders: &[Sender<'_>], fault: ApplyFault) -> Result<T
 
 // How the work of all hosts ended: well, or with the first fault in the order of the hosts.
 fn first_fault(senders: &[Sender<'_>]) -> Result<(), WorkFault>
-    ensures { MatchResult result (λ _. All IsFine senders.now) (λ fault. Any (HasMet fault) senders.now) }
+    ensures { MatchResult result (λ _. All IsFine senders.now) (λ fault. IsFirstMet fault senders.now) }
 {
-    for sender in senders {
-        if let Err(fault) = sender.result {
+    for done in senders {
+        if let Err(fault) = done.result {
             return Err(fault);
         }
     }

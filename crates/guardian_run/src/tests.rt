@@ -5,10 +5,12 @@ ghost use Rattle.std.specs.Prelude.{◌<◌};
 use crate::ending::end;
 use crate::refusal::Refusal;
 use crate::{Status, guardian, guardian_read};
-use lg_base::{MemorySink, MemorySource};
+use lg_base::{MemorySink, MemorySource, OpenGate};
 use lg_disk::MemoryDisk;
 use std::alloc::Global;
+use std::sync::Wait;
 use std::test::Fail;
+use std::thread::Threads;
 
 // One switch and one flow, in a sketch of one column.
 pub(crate) const ONE: &str = "guardian 1\nshape 2 1 ports\npick turns\nhost 1\nswitch 1\n\
@@ -33,7 +35,8 @@ pub(crate) fn joined(alloc: Global, head: &str, rest: &str) -> Result<Vec<u8>, F
 
 // The status and the output of these words, for an input in pieces of that size, where these reads and writes fail. The
 // book is blank.
-fn told(
+fn told<R: Threads + Wait + Sync>(
+    rt: &R,
     alloc: Global,
     words: &[&str],
     text: Vec<u8>,
@@ -50,7 +53,7 @@ fn told(
     let mut source = MemorySource::new(text, piece, reads.to_vec(alloc)?);
     let mut sink = MemorySink::new(alloc, piece, writes.to_vec(alloc)?);
     let disk = MemoryDisk::new(alloc, Vec::new(alloc))?;
-    let (status, _) = guardian(alloc, &asked, &mut source, &mut sink, disk);
+    let (status, _) = guardian(alloc, rt, &asked, &mut source, &mut sink, disk, &OpenGate);
     Ok((status, sink.bytes().to_vec(alloc)?))
 }
 
@@ -165,6 +168,7 @@ fn reports(rt: HostRuntime) -> Result<(), Fail> {
     ] {
         for piece in [1, 7, 4096] {
             let (status, written) = told(
+                &rt,
                 rt.alloc(),
                 &["run"],
                 joined(rt.alloc(), head, rest)?,
@@ -187,6 +191,7 @@ fn a_switch_that_chooses_by_chance(rt: HostRuntime) -> Result<(), Fail> {
             flow 1 10.0.0.1 10.0.0.2 6 2 1 host 1 path 1\npacket 1 1500 20\nend 1\npacket 1 100 5\n\
             ask 1 1 0\ndone\n";
     let (status, written) = told(
+        &rt,
         rt.alloc(),
         &["run"],
         joined(rt.alloc(), text, "")?,
@@ -215,6 +220,7 @@ fn sketchlets_at_the_hosts(rt: HostRuntime) -> Result<(), Fail> {
         ),
     ] {
         let (status, written) = told(
+            &rt,
             rt.alloc(),
             &["capture"],
             joined(rt.alloc(), ONE, rest)?,
@@ -258,6 +264,7 @@ fn refused_texts(rt: HostRuntime) -> Result<(), Fail> {
         for word in ["run", "capture"] {
             for piece in [1, 7, 4096] {
                 let (status, written) = told(
+                    &rt,
                     rt.alloc(),
                     &[word],
                     joined(rt.alloc(), text, "")?,
@@ -290,7 +297,15 @@ fn words_that_are_no_command(rt: HostRuntime) -> Result<(), Fail> {
         &["rebuild", "1"],
         &["make", "0"],
     ] {
-        let (status, written) = told(alloc, words, joined(alloc, ONE, "done\n")?, 7, &[], &[])?;
+        let (status, written) = told(
+            &rt,
+            alloc,
+            words,
+            joined(alloc, ONE, "done\n")?,
+            7,
+            &[],
+            &[],
+        )?;
         assert_eq!(rt;
             (status, written.as_slice()),
             (Status::BadWords, usage.as_slice())
@@ -318,17 +333,41 @@ fn words_that_only_read(rt: HostRuntime) -> Result<(), Fail> {
 fn streams_that_fail(rt: HostRuntime) -> Result<(), Fail> {
     let alloc = rt.alloc();
     let rest = "packet 1 1500 20\nend 1\npacket 1 100 5\nask 1 1 0\ndone\n";
-    let (status, written) = told(alloc, &["run"], joined(alloc, ONE, rest)?, 7, &[3], &[])?;
+    let (status, written) = told(
+        &rt,
+        alloc,
+        &["run"],
+        joined(alloc, ONE, rest)?,
+        7,
+        &[3],
+        &[],
+    )?;
     assert_eq!(rt;
         (status, written.as_slice()),
         (Status::ReadFault, b"guardian: read fault\n".as_slice())
     );
-    let (status, written) = told(alloc, &["run"], joined(alloc, ONE, rest)?, 7, &[], &[1])?;
+    let (status, written) = told(
+        &rt,
+        alloc,
+        &["run"],
+        joined(alloc, ONE, rest)?,
+        7,
+        &[],
+        &[1],
+    )?;
     assert_eq!(rt;
         (status, written.as_slice()),
         (Status::WriteFault, b"flow 1 ".as_slice())
     );
-    let (status, written) = told(alloc, &["runs"], joined(alloc, ONE, rest)?, 7, &[], &[1])?;
+    let (status, written) = told(
+        &rt,
+        alloc,
+        &["runs"],
+        joined(alloc, ONE, rest)?,
+        7,
+        &[],
+        &[1],
+    )?;
     assert_eq!(rt;
         (status, written.as_slice()),
         (Status::BadWords, b"guardia".as_slice())
