@@ -206,38 +206,47 @@ fn a_link_that_loses_and_repeats(rt: HostRuntime) -> Result<(), Fail> {
     Ok(())
 }
 
-// 64 hosts, each with the packets of a flow of its own that carry the one column: one record, and the same report.
+// A line for each of 64 hosts, with the host's name, 10 to 73, in the place of each #.
+fn put_lines(text: &mut Vec<u8>, line: &[u8]) -> Result<(), Fail> {
+    for name in 10..74_u8 {
+        for byte in line {
+            if *byte == b'#' {
+                text.push(b'0' + name / 10)?;
+                text.push(b'0' + name % 10)?;
+            } else {
+                text.push(*byte)?;
+            }
+        }
+    }
+    Ok(())
+}
+
+// A scenario of 64 hosts, each with a flow of its own and a link that loses, repeats and holds; packets of all flows carry
+// the one column.
+fn many_hosts(alloc: Global) -> Result<Vec<u8>, Fail> {
+    let mut text = b"guardian 1\nshape 2 1 ports\npick turns\n".to_vec(alloc)?;
+    put_lines(&mut text, b"host #\n")?;
+    text.extend_from_slice(b"switch 1\n")?;
+    put_lines(
+        &mut text,
+        b"flow # 10.0.0.1 10.0.0.2 6 2 1 host # path 1\n",
+    )?;
+    put_lines(&mut text, b"link # raxh\n")?;
+    text.extend_from_slice(b"packet 10 1500 20\nend 1\n")?;
+    put_lines(&mut text, b"packet # 100 5\npacket # 100 5\n")?;
+    text.extend_from_slice(b"ask 10 1 0\ndone\n")?;
+    Ok(text)
+}
+
+// One record comes of it, whichever host's is first.
 #[test]
 fn all_hosts_at_once(rt: HostRuntime) -> Result<(), Fail> {
     let alloc = rt.alloc();
-    let mut text = b"guardian 1\nshape 2 1 ports\npick turns\n".to_vec(alloc)?;
-    for part in 0..4 {
-        for host in 1..=64 {
-            let line = match part {
-                0 => format!(in alloc; "host {host}\n")?,
-                1 => format!(in alloc;
-                    "flow {host} 10.0.0.1 10.0.0.2 6 2 {host} host {host} path 1\n"
-                )?,
-                2 => format!(in alloc; "link {host} raxh\n")?,
-                _ => format!(in alloc; "packet {host} 1500 20\n")?,
-            };
-            if part == 1 && host == 1 {
-                text.extend_from_slice(b"switch 1\n")?;
-            }
-            if part == 3 && host == 1 {
-                text.extend_from_slice(b"packet 1 1500 20\nend 1\n")?;
-            }
-            text.extend_from_slice(line.as_bytes())?;
-        }
-    }
-    text.extend_from_slice(b"ask 1 1 0\ndone\n")?;
-    let report = "flow 1 switch 1 epoch 0 rows 2 of 2 bytes 1500 delay 20\ncolumns 1\n";
+    let report = "flow 10 switch 1 epoch 0 rows 2 of 2 bytes 1500 delay 20\ncolumns 1\n";
     let disk = MemoryDisk::new(alloc, Vec::new(alloc))?;
-    let (status, written, _) = told(&rt, alloc, "run", text, disk)?;
-    assert_eq!(rt;
-        (status, written.as_slice()),
-        (Status::Ok, report.as_bytes())
-    );
+    let (status, written, disk) = told(&rt, alloc, "run", many_hosts(alloc)?, disk)?;
+    assert_eq!(rt; (status, written.as_slice()), (Status::Ok, report.as_bytes()));
+    assert_eq!(rt; disk.bytes().len(), ONE_FILE.len());
     Ok(())
 }
 
