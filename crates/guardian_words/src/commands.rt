@@ -5,6 +5,8 @@
 pub enum Command {
     /// Read a scenario, run its network, and write the report.
     Run,
+    /// Run the network of the generated scenario of that many rounds, 1 to 1,000, and write the summary.
+    Demo(u32),
     /// Read a scenario, and write the report on the book as it is.
     Ask,
     /// Write all columns of the book.
@@ -18,4 +20,6 @@ pub enum Command {
     },
     /// Read a scenario, run its network, and write the sketchlets that came to the hosts.
     Capture,
+    /// Write the text of the generated scenario of that many rounds, 1 to 1,000.
+    Make(u32),
 }
