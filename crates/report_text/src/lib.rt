@@ -1,4 +1,4 @@
-//! Every line that the program writes: the lines of a report and of a capture, and fault lines (docs/FORMATS.md, Output
+//! Every line that the program writes: the lines of a report, a capture and a summary, and fault lines (docs/FORMATS.md, Output
 //! lines; Fault lines and exit statuses).
 //!
 //! | Item | What it is |
@@ -6,6 +6,7 @@
 //! | [`answer_line`], [`put_answer_line`] | the line of an answer |
 //! | [`put_columns_line`], [`put_sketchlets_line`] | the last line of a report, and of a capture |
 //! | [`hex_line`], [`put_hex_line`] | the line of a sketchlet |
+//! | [`Summary`], [`put_summary`] | the lines of the summary of a demonstration |
 //! | [`column_line`], [`put_column_line`] | the line of a column |
 //! | [`row_line`], [`put_row_line`] | the line of a row of a sketch |
 //! | [`put_rebuilt_line`] | the first line of a rebuilt sketch |
@@ -27,6 +28,7 @@ mod columns;
 #[cfg(test)]
 mod columns_tests;
 mod faults;
+mod summary;
 #[cfg(test)]
 mod tests;
 
@@ -41,4 +43,5 @@ pub use faults::{
     not_a_journal_line, put_conflict_line, put_full_line, put_scenario_line, read_fault_line,
     scenario_line, shape_line, usage_line,
 };
+pub use summary::{Summary, put_summary};
 pub use text_out::{put_number, put_text};

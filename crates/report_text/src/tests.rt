@@ -1,7 +1,7 @@
 use crate::{
-    answer_line, blank_line, damaged_line, disk_fault_line, full_line, hex_line, missing_line,
+    Summary, answer_line, blank_line, damaged_line, disk_fault_line, full_line, hex_line, missing_line,
     no_memory_line, not_a_journal_line, put_answer_line, put_columns_line, put_full_line,
-    put_hex_line, put_rebuilt_line, put_scenario_line, put_sketchlets_line, read_fault_line,
+    put_hex_line, put_rebuilt_line, put_scenario_line, put_sketchlets_line, put_summary, read_fault_line,
     scenario_line, shape_line, usage_line,
 };
 use lg_model::{Answer, Dims, Hash, Shape, Value};
@@ -61,6 +61,25 @@ fn a_report_of_one_answer(rt: HostRuntime) -> Result<(), Fail> {
     assert_eq!(rt;
         out.as_slice(),
         b"flow 65535 switch 65534 epoch 4294967295 rows 8 of 8 bytes 10 delay 65534\ncolumns 262144\n".as_slice()
+    );
+    Ok(())
+}
+
+#[test]
+fn a_summary(rt: HostRuntime) -> Result<(), Fail> {
+    let summary = Summary {
+        rounds: 1,
+        packets: 416,
+        arrived: 256,
+        columns: 64,
+        asks: 8,
+        unknown: 0,
+    };
+    let mut out = Vec::new(rt.alloc());
+    put_summary(&mut out, &summary)?;
+    assert_eq!(rt;
+        out.as_slice(),
+        b"demo 1\npackets 416\narrived 256\ncolumns 64\nasks 8 unknown 0\n".as_slice()
     );
     Ok(())
 }
