@@ -16,7 +16,7 @@ use Rattle.column_book.specs.Entries.{content_in}
 use Rattle.run_laws.specs.Truth.{IsTrueRun}
 use Rattle.run_laws.proofs.Agreeing.{true_book}
 use Rattle.guardian_run.specs.Outcomes.{Outcome, Captures, Lists, Rebuilds, Comes, WithScenario, reads_text, looks_at_file}
-use Rattle.guardian_run.specs.Giving.{IsUnread, GivesOfText, IsUnlooked, GivesOfFile, IsFree, IsTrueFile, IsTrueOutput, Draws, Gives}
+use Rattle.guardian_run.specs.Giving.{IsUnread, GivesOfText, GivesMade, IsUnlooked, GivesOfFile, IsFree, IsTrueFile, IsTrueOutput, Draws, Gives}
 use Rattle.report_text.specs.Faults.{usage_line, read_fault_line, disk_fault_line, no_memory_line}
 use Rattle.guardian_run.specs.Ends.{IsOutputEnd, IsStatusOf, IsAnswered, Puts, Ends}
 use Rattle.guardian_run.specs.Ending.{EndsWith, EndsWithLine, EndsRefused}
@@ -57,6 +57,8 @@ IsProper refusals.Blank = Unit {0}
 -- a command comes to no other refusal
 proper : (command : Command) (said : Result Scenario Fault) (file : List ℕ) (r : Refusal) → Comes (Some command) said file (Err r) → IsProper r
 proper commands.Run said file r is = absurd is
+proper (commands.Demo n) said file r is = absurd is
+proper (commands.Make n) said file r is = absurd (cc is)
 proper commands.Capture (Ok w) file r is = absurd (cc is.1)
 proper commands.Capture (Err (n, why)) file r is = subst IsProper (sym (one_refusal r (refusals.BadScenario n why) is)) tt
 proper commands.Ask (Ok w) file refusals.NotAJournal is = tt
@@ -457,6 +459,20 @@ ends_by items asked command source sink disk s given P same move has is done end
 
 true_file : (file : List ℕ) → IsTrueFile file
 true_file file w rs whole stands agrees = true_book w (content_in rs) whole agrees
+
+pub gives_make : (rounds : ℕ) (source : Change) (disk : DiskChange) (o : Outcome) → IsUntouched source → source.faults_old ≤ source.faults_new →
+    disk.faults_old ≤ disk.faults_new → GivesMade rounds o → Gives (Some (commands.Make rounds)) source disk o
+gives_make rounds source disk o left same calm gives = record {
+  said = said_by source.old;
+  file = disk.seen;
+  input = said_is source.old;
+  held = λ _. refl;
+  is = elim gives as (λ _. IsFree (Some (commands.Make rounds)) source disk o
+      ⊎ Comes (Some (commands.Make rounds)) (said_by source.old) disk.seen o) [ inl h ↦ inl (inr (inr h)) | inr h ↦ inr h ];
+  draws = record { unread = λ _. left; took = λ e. absurd cc; never_falls = same };
+  disk_never_falls = calm;
+  truth = λ _. tt;
+}
 
 pub gives_capture : (source : Change) (disk : DiskChange) (o : Outcome) → disk.faults_old ≤ disk.faults_new → GivesOfText Captures source o →
     Gives (Some commands.Capture) source disk o

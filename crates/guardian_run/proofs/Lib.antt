@@ -8,3 +8,4 @@ pub mod AckedLines
 pub mod Told
 pub mod Left
 pub mod RunEnding
+pub mod Showing

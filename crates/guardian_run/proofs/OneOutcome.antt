@@ -204,7 +204,9 @@ one_of_text next (Err (n, why)) a b one this that = this ∙ sym that
 pub one_outcome : LawOfOutcomes
 one_outcome None said file a b this that = this ∙ sym that
 one_outcome (Some commands.Run) said file a b this that = absurd this
+one_outcome (Some (commands.Demo n)) said file a b this that = absurd this
 one_outcome (Some commands.Capture) said file a b this that = one_of_text _ said a b (λ w x y p q. p ∙ sym q) this that
 one_outcome (Some commands.Ask) said file a b this that = one_of_text (Asks file) said a b (one_ask file) this that
 one_outcome (Some commands.List) said file a b this that = one_list_outcome file a b this that
 one_outcome (Some (commands.Rebuild s e)) said file a b this that = one_rebuild s e file a b this that
+one_outcome (Some (commands.Make n)) said file a b this that = this ∙ sym that

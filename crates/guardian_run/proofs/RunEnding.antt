@@ -199,6 +199,14 @@ module _ {D : Type 0} (honest : D → Type 0) (seen : D → List ℕ) (images : 
       truth = true_law delivered w (records j0.entries) whole;
     }
 
+    -- with the records that the journal has
+    pub is_run_kept : (s at : Status) (line : List ℕ) (ran : HasRun rose_then w j0 j1 at line) →
+        RunSays w (records j0.entries) (records j1.entries) (records (with_fault j1.entries j1.fault)) ran.acked rose_then s line →
+        (s ≡ status.Ok → at ≡ status.Ok) →
+        (u : HasUploaded honest seen images moment since rose w s line start j1.disk) × (u.kept ≡ records j1.entries)
+    unfolding is_run
+    is_run_kept s at line ran says ok = (is_run s at line ran says ok, refl)
+
     run_end : (s : Status) (line : List ℕ) → HasUploaded honest seen images moment since rose w s line start j1.disk → Puts s sink line →
         (s ≡ status.WriteFault → HasFailed sink) → RunsFrom honest seen images moment since faults_of w sink start j1.disk s
     run_end s line is puts write = record {
@@ -246,24 +254,26 @@ module _ {D : Type 0} (honest : D → Type 0) (seen : D → List ℕ) (images : 
   -- ---- the whole command
 
   -- nothing of the outside failed, and the book takes what is brought
-  completes : (w : Scenario) (whole : IsWhole w) (standing : LawOfStanding) (sink : Change) (old new : D) (s : Status) →
-      RunsFrom honest seen images moment since faults_of w sink old new s → honest old → CanRun w (seen old) →
+  pub completes_by : (w : Scenario) (whole : IsWhole w) (standing : LawOfStanding) (sink : Change) (old new : D) (s : Status) (line : List ℕ) →
+      IsStart honest seen images moment since (Rose (faults_of old) (faults_of new)) w s line old new
+      ⊎ HasUploaded honest seen images moment since (Rose (faults_of old) (faults_of new)) w s line old new →
+      (s ≡ status.WriteFault → HasFailed sink) → honest old → CanRun w (seen old) →
       (Rose (faults_of old) (faults_of new) → ⊥) → (HasFailed sink → ⊥) → (s ≡ status.Ok) ⊎ (s ≡ status.NoMemory)
-  completes w whole standing sink old new s ends h can calm fine = by ends.is
+  completes_by w whole standing sink old new s line is write h can calm fine = by is
     where
-      begun : (x : IsStart honest seen images moment since (Rose (faults_of old) (faults_of new)) w s ends.text old new) →
-          StartSays w x.file (Rose (faults_of old) (faults_of new)) s ends.text → (s ≡ status.Ok) ⊎ (s ≡ status.NoMemory)
+      begun : (x : IsStart honest seen images moment since (Rose (faults_of old) (faults_of new)) w s line old new) →
+          StartSays w x.file (Rose (faults_of old) (faults_of new)) s line → (s ≡ status.Ok) ⊎ (s ≡ status.NoMemory)
       begun x (inl fault) =
           absurd (no_fault (Some w.shape) (seen old) w.shape can.rs fault.0 refl (record { stands = can.stands; few = can.few })
           (subst (λ f. HasFault (Some w.shape) f fault.0) (x.held h) fault.1))
       begun x (inr (inl device)) = absurd (calm device.1)
       begun x (inr (inr starved)) = inr starved.0
 
-      ran : (x : HasUploaded honest seen images moment since (Rose (faults_of old) (faults_of new)) w s ends.text old new) → (at : Status) → s ≡ at →
-          RunSays w x.before x.kept x.full x.acked (Rose (faults_of old) (faults_of new)) at ends.text → (s ≡ status.Ok) ⊎ (s ≡ status.NoMemory)
+      ran : (x : HasUploaded honest seen images moment since (Rose (faults_of old) (faults_of new)) w s line old new) → (at : Status) → s ≡ at →
+          RunSays w x.before x.kept x.full x.acked (Rose (faults_of old) (faults_of new)) at line → (s ≡ status.Ok) ⊎ (s ≡ status.NoMemory)
       ran x status.Ok is says = inl is
       ran x status.NoMemory is says = inr is
-      ran x status.WriteFault is says = absurd (fine (ends.write is))
+      ran x status.WriteFault is says = absurd (fine (write is))
       ran x status.Conflict is says =
           let same : x.before ≡ can.rs = standing.one w.shape (seen old) x.before can.rs (x.stood h) can.stands in
           let c = says.1 in
@@ -282,10 +292,15 @@ module _ {D : Type 0} (honest : D → Type 0) (seen : D → List ℕ) (images : 
       ran x status.Damaged is says = absurd says
       ran x status.Missing is says = absurd says
 
-      by : IsStart honest seen images moment since (Rose (faults_of old) (faults_of new)) w s ends.text old new
-          ⊎ HasUploaded honest seen images moment since (Rose (faults_of old) (faults_of new)) w s ends.text old new → (s ≡ status.Ok) ⊎ (s ≡ status.NoMemory)
+      by : IsStart honest seen images moment since (Rose (faults_of old) (faults_of new)) w s line old new
+          ⊎ HasUploaded honest seen images moment since (Rose (faults_of old) (faults_of new)) w s line old new → (s ≡ status.Ok) ⊎ (s ≡ status.NoMemory)
       by (inl x) = begun x x.says
       by (inr x) = ran x s refl x.says
+
+  completes : (w : Scenario) (whole : IsWhole w) (standing : LawOfStanding) (sink : Change) (old new : D) (s : Status) →
+      RunsFrom honest seen images moment since faults_of w sink old new s → honest old → CanRun w (seen old) →
+      (Rose (faults_of old) (faults_of new) → ⊥) → (HasFailed sink → ⊥) → (s ≡ status.Ok) ⊎ (s ≡ status.NoMemory)
+  completes w whole standing sink old new s ends = completes_by w whole standing sink old new s ends.text ends.is ends.write
 
   one_scenario : (w v : Scenario) → ◌≡◌ {A = Result Scenario Fault} (Ok w) (Ok v) → w ≡ v
   one_scenario w v same = cc

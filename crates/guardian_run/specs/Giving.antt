@@ -12,7 +12,7 @@ use Rattle.guardian_words.specs.declared.commands.Command.{Command}
 use Rattle.guardian_words.specs.declared.commands.Command.TheVariants as commands
 use Rattle.guardian_run.specs.declared.refusal.Refusal.TheVariants as refusals
 use Rattle.guardian_run.specs.Changes.{Change, HasFailed, IsUntouched, DiskChange, DiskHasFailed}
-use Rattle.guardian_run.specs.Outcomes.{Outcome, Comes, WithScenario, reads_text, looks_at_file}
+use Rattle.guardian_run.specs.Outcomes.{Outcome, Makes, Comes, WithScenario, reads_text, looks_at_file}
 
 -- ---- commands that need one thing alone
 
@@ -30,6 +30,10 @@ pub record GivesOfText (next : Scenario → Outcome → Type 0) (source : Change
   pub took : IsUnread source outcome ⊎ IfSome source.old (λ input. IsTaken input source.new)
   pub never_falls : source.faults_old ≤ source.faults_new
   pub truth : IsOk outcome → IfOk said IsTrueRun
+
+-- What `make` gives: what it comes to, unless memory ran out.
+abbrev pub GivesMade : (rounds : ℕ) → Outcome → Type 0
+GivesMade rounds outcome = (outcome ≡ Err refusals.Memory) ⊎ Makes rounds outcome
 
 -- The disk failed, or memory ran out.
 abbrev pub IsUnlooked : (disk : DiskChange) → Outcome → Type 0
@@ -61,10 +65,12 @@ IsTrueFile file = (w : Scenario) (rs : List UploadData) → IsWhole w → Stands
 abbrev pub IsTrueOutput : Option Command → (said : Result Scenario Fault) → (file : List ℕ) → Type 0
 IsTrueOutput None said file = Unit {0}
 IsTrueOutput (Some commands.Run) said file = Unit {0}
+IsTrueOutput (Some (commands.Demo n)) said file = Unit {0}
 IsTrueOutput (Some commands.Capture) said file = IfOk said IsTrueRun
 IsTrueOutput (Some commands.Ask) said file = IsTrueFile file
 IsTrueOutput (Some commands.List) said file = IsTrueFile file
 IsTrueOutput (Some (commands.Rebuild s e)) said file = IsTrueFile file
+IsTrueOutput (Some (commands.Make n)) said file = Unit {0}
 
 -- The source: a command that reads no text leaves it alone; one that does takes a front of the input that decides it,
 -- unless it was cut short.

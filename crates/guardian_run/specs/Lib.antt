@@ -10,3 +10,4 @@ pub mod Looking
 pub mod Sending
 pub mod Running
 pub mod Telling
+pub mod Showing

@@ -1,5 +1,5 @@
 -- What a command that never writes to the disk comes to: its output, or why it is refused, by what the input says and
--- what the book's file holds. How `run` ends is said in Running.
+-- what the book's file holds. How `run` ends is said in Running, how `demo` ends in Showing.
 use Rattle.std.specs.Prelude.{◌≡◌, ℕ, ◌<◌, ◌≤◌, Bool, true, false, List, length, filter, Option, Some, None, Result}
 use Rattle.std.specs.Prelude.{Ok, Err}
 use Rattle.lg_model.specs.Placing.{Shape}
@@ -8,6 +8,7 @@ use Rattle.lg_model.specs.Columns.{dims_of}
 use Rattle.lg_model.specs.Answer.{look_in}
 use Rattle.sketchlet_wire.specs.Uploads.{UploadData}
 use Rattle.sumax_sketch.specs.SketchState.{SketchState}
+use Rattle.scenario_parts.specs.Printed.{text_of}
 use Rattle.scenario_parts.specs.Whole.{IsWhole}
 use Rattle.scenario_text.specs.Text.{Fault}
 use Rattle.column_book.specs.declared.book.TheConstants.{ROOM}
@@ -16,6 +17,7 @@ use Rattle.flow_query.specs.Rebuilt.{IsRebuilt}
 use Rattle.book_file.specs.declared.found.OpenFault.TheVariants as faults
 use Rattle.book_file.specs.File.{IsBlank, StandsFor}
 use Rattle.book_file.specs.Found.{Finds, count_of}
+use Rattle.scenario_make.specs.Generator.{generated}
 use Rattle.report_text.specs.Report.{report}
 use Rattle.guardian_words.specs.declared.commands.Command.{Command}
 use Rattle.guardian_words.specs.declared.commands.Command.TheVariants as commands
@@ -32,6 +34,12 @@ Outcome = Result (List ℕ) Refusal
 -- `capture`: the sketchlets that come to the hosts.
 abbrev pub Captures : Scenario → Outcome → Type 0
 Captures w outcome = outcome ≡ Ok (capture_of w)
+
+-- ---- the command that needs nothing
+
+-- `make`: the text of the generated scenario.
+abbrev pub Makes : (rounds : ℕ) → Outcome → Type 0
+Makes rounds outcome = outcome ≡ Ok (text_of (generated rounds))
 
 -- ---- commands that look at the book's file
 
@@ -126,15 +134,17 @@ abbrev pub WithScenario : (Scenario → Outcome → Type 0) → Result Scenario 
 WithScenario next (Err (n, why)) outcome = outcome ≡ Err (refusals.BadScenario n why)
 WithScenario next (Ok w) outcome = IsWhole w × next w outcome
 
--- What a call comes to that was asked for this command, or for none, and not for `run`, where `said` is what the
--- input says and `file` what the book's file holds.
+-- What a call comes to that was asked for this command, or for none, and not for `run` or `demo`, where `said` is what
+-- the input says and `file` what the book's file holds.
 abbrev pub Comes : Option Command → (said : Result Scenario Fault) → (file : List ℕ) → Outcome → Type 0
 Comes None said file outcome = outcome ≡ Err refusals.BadWords
 Comes (Some commands.Run) said file outcome = ⊥
+Comes (Some (commands.Demo n)) said file outcome = ⊥
 Comes (Some commands.Capture) said file outcome = WithScenario Captures said outcome
 Comes (Some commands.Ask) said file outcome = WithScenario (Asks file) said outcome
 Comes (Some commands.List) said file outcome = Lists file outcome
 Comes (Some (commands.Rebuild s e)) said file outcome = Rebuilds s e file outcome
+Comes (Some (commands.Make n)) said file outcome = Makes n outcome
 
 -- The law of outcomes: there is one at most. So each comes exactly where its cause is there.
 abbrev pub LawOfOutcomes : Type 0
@@ -145,24 +155,41 @@ LawOfOutcomes = (asked : Option Command) (said : Result Scenario Fault) (file : 
 abbrev pub reads_text : Option Command → Bool
 reads_text None = false
 reads_text (Some commands.Run) = true
+reads_text (Some (commands.Demo n)) = false
 reads_text (Some commands.Capture) = true
 reads_text (Some commands.Ask) = true
 reads_text (Some commands.List) = false
 reads_text (Some (commands.Rebuild s e)) = false
+reads_text (Some (commands.Make n)) = false
 
 abbrev pub looks_at_file : Option Command → Bool
 looks_at_file None = false
 looks_at_file (Some commands.Run) = true
+looks_at_file (Some (commands.Demo n)) = true
 looks_at_file (Some commands.Capture) = false
 looks_at_file (Some commands.Ask) = true
 looks_at_file (Some commands.List) = true
 looks_at_file (Some (commands.Rebuild s e)) = true
+looks_at_file (Some (commands.Make n)) = false
 
 -- The commands that never write to the disk.
 abbrev pub reading_command : Option Command → Option Command
 reading_command None = None
 reading_command (Some commands.Run) = None
+reading_command (Some (commands.Demo n)) = None
 reading_command (Some commands.Capture) = Some commands.Capture
 reading_command (Some commands.Ask) = Some commands.Ask
 reading_command (Some commands.List) = Some commands.List
 reading_command (Some (commands.Rebuild s e)) = Some (commands.Rebuild s e)
+reading_command (Some (commands.Make n)) = Some (commands.Make n)
+
+-- Which commands may write to the disk.
+abbrev pub may_write : Option Command → Bool
+may_write None = false
+may_write (Some commands.Run) = true
+may_write (Some (commands.Demo n)) = true
+may_write (Some commands.Capture) = false
+may_write (Some commands.Ask) = false
+may_write (Some commands.List) = false
+may_write (Some (commands.Rebuild s e)) = false
+may_write (Some (commands.Make n)) = false

@@ -13,9 +13,13 @@
 
 mod ask;
 mod capture;
+mod demo;
+#[cfg(test)]
+mod demo_tests;
 mod ending;
 mod list;
 mod looking;
+mod make;
 #[cfg(test)]
 mod read_tests;
 mod rebuild;

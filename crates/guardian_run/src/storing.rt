@@ -17,7 +17,7 @@ use host_collect::uploads;
 use host_workers::{Seats, Sender, room_for, run_workers};
 use lg_base::{Gate, Memory};
 use lg_disk::Disk;
-use path_sim::{Arrivals, run_own};
+use path_sim::Arrivals;
 use scenario_text::Scenario;
 use shared_book::share;
 use std::alloc::Global;
@@ -69,33 +69,36 @@ fn senders<'a>(
     Ok(senders)
 }
 
-// Runs the network of a scenario, and takes what the workers of its hosts need.
+// Takes what the workers of the hosts of a scenario need, with what came to the hosts.
 fn prepare<'a>(
     alloc: Global,
     scenario: &'a Scenario,
+    arrivals: &Arrivals,
 ) -> Result<(Vec<Sender<'a>>, Seats<'a>), Memory>
+    requires arrived { HaveArrived scenario.now (picked scenario.now) arrivals.now.inboxes }
     requires fits { IsWhole scenario.now }
     ensures senders { IfOk result (λ r. AreSenders scenario.now (length scenario.now.hosts) r.0.items) }
     ensures calls { IfOk result (λ r. All HasCallsFor r.0.items) }
     ensures few { IfOk result (λ r. length r.0.items ≤ 64) }
     ensures seats { IfOk result (λ r. HasSeats (length r.0.items) r.1) }
 {
-    let arrivals = run_own(alloc, scenario)?;
-    let senders = senders(alloc, scenario, &arrivals)?;
+    let senders = senders(alloc, scenario, arrivals)?;
     let seats = room_for(alloc, senders.len())?;
     Ok((senders, seats))
 }
 
-/// Runs the network of a scenario and sends what came to its hosts, with a worker for each host, to a journal that was just
-/// opened with the scenario's shape and as much room as a book may have. Gives the closed journal and the senders back,
-/// each with how its work ended; or the journal as it was, where no memory was found before the first upload.
+/// Sends what came to the hosts of a scenario, with a worker for each host, to a journal that was just opened with the
+/// scenario's shape and as much room as a book may have. Gives the closed journal and the senders back, each with how its
+/// work ended; or the journal as it was, where no memory was found before the first upload.
 pub(crate) fn store_all<'a, D: Disk + Send, G: Gate, R: Threads + Wait + Sync>(
     alloc: Global,
     rt: &R,
     scenario: &'a Scenario,
+    arrivals: &Arrivals,
     journal: Journal<D>,
     gate: &G,
 ) -> Result<(Journal<D>, Vec<Sender<'a>>), Journal<D>>
+    requires arrived { HaveArrived scenario.now (picked scenario.now) arrivals.now.inboxes }
     requires fits { IsWhole scenario.now }
     requires shape { journal.shape ≡ scenario.now.shape }
     requires room { journal.room ≡ ROOM }
@@ -106,7 +109,7 @@ pub(crate) fn store_all<'a, D: Disk + Send, G: Gate, R: Threads + Wait + Sync>(
     ensures back { IfErr result (λ j. j ≡ journal) }
 {
     workers_leave_legal_lists();
-    let Ok((senders, seats)) = prepare(alloc, scenario) else {
+    let Ok((senders, seats)) = prepare(alloc, scenario, arrivals) else {
         return Err(journal);
     };
     let (book, first) = match share(alloc, journal) {

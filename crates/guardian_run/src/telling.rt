@@ -2,6 +2,8 @@
 ghost use Rattle.std.specs.Prelude.{◌≡◌, ◌++◌, ◌<◌, length, All, None, IfOk, IfErr, MatchResult};
 ghost use Rattle.std.specs.List.{flat_map};
 ghost use Rattle.lg_base.specs.Causes.{Rose};
+ghost use Rattle.lg_model.specs.Carrying.{picked};
+ghost use Rattle.path_sim.specs.Arrived.{HaveArrived};
 ghost use Rattle.scenario_parts.specs.Whole.{IsWhole};
 ghost use Rattle.column_book.specs.declared.book.TheConstants.{ROOM};
 ghost use Rattle.column_book.specs.Entries.{records};
@@ -19,6 +21,7 @@ use book_journal::{ApplyFault, Journal};
 use host_workers::Sender;
 use lg_base::{Gate, Memory};
 use lg_disk::Disk;
+use path_sim::{Arrivals, run_own};
 use report_text::{disk_fault_line, put_acked_line, put_conflict_line, put_full_line, put_text};
 use scenario_text::Scenario;
 use std::alloc::Global;
@@ -134,9 +137,41 @@ fn conclude<D: Disk>(
     }
 }
 
-/// Runs the network of a scenario, sends what came to its hosts to a journal that was just opened with the scenario's
-/// shape, and gives what is told, with the journal as it was closed. Memory where there is none for the network, the
-/// uploads or the lines: then nothing is told, and the uploads that were stored stay.
+/// Sends what came to the hosts of a scenario to a journal that was just opened with the scenario's shape, and gives what is
+/// told, with the journal as it was closed. Memory where there is none for the uploads or the lines: then nothing is told,
+/// and the uploads that were stored stay.
+pub(crate) fn tell_arrived<D: Disk + Send, G: Gate, R: Threads + Wait + Sync>(
+    alloc: Global,
+    rt: &R,
+    scenario: &Scenario,
+    arrivals: &Arrivals,
+    journal: Journal<D>,
+    gate: &G,
+) -> (Result<Told, Memory>, Journal<D>)
+    requires arrived { HaveArrived scenario.now (picked scenario.now) arrivals.now.inboxes }
+    requires fits { IsWhole scenario.now }
+    requires shape { journal.shape ≡ scenario.now.shape }
+    requires room { journal.room ≡ ROOM }
+    requires whole { journal.fault ≡ None }
+    requires once { HasKeysOnce (records journal.entries) }
+    requires runs { D.honest journal.disk →
+        IsRun D.honest D.seen D.images D.moment D.since (start_of D.seen D.moment journal) journal }
+    ensures told { IfOk result.0 (λ told. HasRun (Rose (D.faults journal.disk) (D.faults result.1.disk)) scenario.now
+        journal result.1 (status_told told) (text_told told)) }
+    ensures starved { IfErr result.0 (λ _. HasRun (Rose (D.faults journal.disk) (D.faults result.1.disk)) scenario.now
+        journal result.1 NoMemory no_memory_line) }
+    ensures goes_on { GoesOn D.honest D.seen D.images D.moment D.since D.faults journal result.1 }
+{
+    match store_all(alloc, rt, scenario, arrivals, journal, gate) {
+        Ok((journal, senders)) => {
+            let told = conclude(alloc, scenario, &journal, &senders);
+            (told, journal)
+        }
+        Err(journal) => (Err(Memory), journal),
+    }
+}
+
+/// Runs the network of a scenario, and then does as [`tell_arrived`]. Memory also where there is none for the network.
 pub(crate) fn tell<D: Disk + Send, G: Gate, R: Threads + Wait + Sync>(
     alloc: Global,
     rt: &R,
@@ -157,11 +192,8 @@ pub(crate) fn tell<D: Disk + Send, G: Gate, R: Threads + Wait + Sync>(
         journal result.1 NoMemory no_memory_line) }
     ensures goes_on { GoesOn D.honest D.seen D.images D.moment D.since D.faults journal result.1 }
 {
-    match store_all(alloc, rt, scenario, journal, gate) {
-        Ok((journal, senders)) => {
-            let told = conclude(alloc, scenario, &journal, &senders);
-            (told, journal)
-        }
-        Err(journal) => (Err(Memory), journal),
+    match run_own(alloc, scenario) {
+        Ok(arrivals) => tell_arrived(alloc, rt, scenario, &arrivals, journal, gate),
+        Err(_) => (Err(Memory), journal),
     }
 }

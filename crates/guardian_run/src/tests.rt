@@ -295,7 +295,14 @@ fn words_that_are_no_command(rt: HostRuntime) -> Result<(), Fail> {
         &["run", "run"],
         &["capture", "1"],
         &["rebuild", "1"],
+        &["rebuild", "-1", "0"],
+        &["list", "x"],
+        &["make"],
         &["make", "0"],
+        &["make", "1001"],
+        &["make", "01"],
+        &["make", "1", "2"],
+        &["demo"],
     ] {
         let (status, written) = told(
             &rt,

@@ -1,18 +1,20 @@
 //! The top calls.
-ghost use Rattle.std.specs.Prelude.{◌≡◌, ◌≢◌, Some};
-ghost use Rattle.std.specs.Bool.{MatchBool};
-ghost use Rattle.guardian_words.specs.declared.commands.Command.TheVariants.{Run};
+ghost use Rattle.std.specs.Prelude.{◌≡◌, ℕ, Some, false};
+ghost use Rattle.guardian_words.specs.declared.commands.Command.TheVariants.{Run, Demo};
 ghost use Rattle.guardian_words.specs.Words.{asked};
 ghost use Rattle.book_journal.specs.Crashes.{OnlyReads};
 ghost use Rattle.guardian_run.specs.Changes.{change, disk_change};
-ghost use Rattle.guardian_run.specs.Outcomes.{reading_command, LawOfOutcomes};
+ghost use Rattle.guardian_run.specs.Outcomes.{reading_command, may_write, LawOfOutcomes};
 ghost use Rattle.guardian_run.specs.Ends.{Ends};
 ghost use Rattle.guardian_run.specs.Running.{RunEnds};
+ghost use Rattle.guardian_run.specs.Showing.{DemoEnds};
 
 use crate::ask::ask;
 use crate::capture::capture;
+use crate::demo::demo;
 use crate::ending::end;
 use crate::list::list;
+use crate::make::make;
 use crate::rebuild::rebuild;
 use crate::refusal::Refusal;
 use crate::run::run;
@@ -30,7 +32,7 @@ pub fn outcomes_are_one()
     ensures { LawOfOutcomes }
 {}
 
-/// Does what the words say, if it is a command that never writes to the disk: `ask`, `list`, `rebuild` and `capture`.
+/// Does what the words say, if it is a command that never writes to the disk: `ask`, `list`, `rebuild`, `capture` and `make`.
 ///
 /// `BadWords` exactly where the words are none of these. The other answers are those of [`guardian`]. At each end a read of
 /// the disk gives what it gave before, and a crash leaves what it might have left.
@@ -52,30 +54,19 @@ pub fn guardian_read<S: Source, K: Sink, D: Disk>(
             end(alloc, rebuild(alloc, disk, switch, epoch), sink)
         }
         Some(Command::Capture) => end(alloc, capture(alloc, source), sink),
+        Some(Command::Make(rounds)) => end(alloc, make(alloc, rounds), sink),
         Some(Command::Run) => end(alloc, Err(Refusal::BadWords), sink),
+        Some(Command::Demo(_)) => end(alloc, Err(Refusal::BadWords), sink),
         None => end(alloc, Err(Refusal::BadWords), sink),
-    }
-}
-
-// Whether a command may write to the disk.
-fn is_run(command: Option<Command>) -> bool
-    ensures { MatchBool result (command ≡ Some Run) ((reading_command command ≡ command) × (command ≢ Some Run)) }
-{
-    match command {
-        Some(Command::Run) => true,
-        Some(Command::Ask) => false,
-        Some(Command::List) => false,
-        Some(Command::Rebuild { .. }) => false,
-        Some(Command::Capture) => false,
-        None => false,
     }
 }
 
 /// Does what the words say: `run` reads a scenario from the source, runs its network, adds what came to the hosts to the book
 /// of the disk's file, and writes the report on that book into the sink; `ask` reads a scenario and writes the report on the
 /// book as it is, `list` all its columns, and `rebuild` a sketch of them; `capture` writes the sketchlets that came to the
-/// hosts. The disk is handed back at every end. How a call ends is the record `RunEnds` for `run`, and `Ends` for every other
-/// command (docs/DEFINITIONS.md, Ends).
+/// hosts. `make` writes the text of a generated scenario, and `demo` runs one as `run` does and writes a summary. The disk is
+/// handed back at every end. How a call ends is the record `RunEnds` for `run`, `DemoEnds` for `demo`, and `Ends` for every
+/// other command (docs/DEFINITIONS.md, Ends).
 ///
 /// At `Ok` the output was written, at `WriteFault` a front of it; at `Conflict`, `Full` and `DiskFault` of a run a line for each
 /// acknowledged upload and the fault line, at every other status the fault line alone, or a front of that where the sink
@@ -83,13 +74,13 @@ fn is_run(command: Option<Command>) -> bool
 ///
 /// `BadWords` exactly where the words are no command; nothing is read then. `BadScenario` where a scenario is read and the input
 /// is no scenario text; then `NotAJournal`, `WrongShape`, `Damaged` and `Full` where the book's file has that fault first;
-/// `Missing` where a sketch is to be rebuilt and fewer columns than its width are in the book, or the book is blank. `run` ends
-/// with `Conflict` where a column that came to a host has other counters than the book's column of its key, and with `Full`
+/// `Missing` where a sketch is to be rebuilt and fewer columns than its width are in the book, or the book is blank. `run` and
+/// `demo` end with `Conflict` where a column that came to a host has other counters than the book's column of its key, and with `Full`
 /// where both together have more keys than a book has room for. `ReadFault`, `WriteFault` and `DiskFault` come only where the
 /// source's, the sink's or the disk's count of faults rose in this call or stands at its last value, `NoMemory` where no memory
 /// was found.
 ///
-/// All commands but `run` only read the disk. What a run leaves is legal at every moment, a crash included; each acknowledged
+/// All commands but `run` and `demo` only read the disk. What a run leaves is legal at every moment, a crash included; each acknowledged
 /// upload is in every file that a crash may leave now; and where all that is brought was there, the file stays as it was.
 pub fn guardian<S: Source, K: Sink, D: Disk + Send, G: Gate, R: Threads + Wait + Sync>(
     alloc: Global,
@@ -102,13 +93,18 @@ pub fn guardian<S: Source, K: Sink, D: Disk + Send, G: Gate, R: Threads + Wait +
 ) -> (Status, D)
     ensures runs { asked words.now ≡ Some Run → RunEnds D.honest D.seen D.images D.moment D.since D.faults
         (change S.left S.faults source.old source.new) (change K.written K.faults sink.old sink.new) disk result.1 result.0 }
-    ensures ends { asked words.now ≢ Some Run → Ends (asked words.now) (change S.left S.faults source.old source.new)
+    ensures shows { (rounds : ℕ) → asked words.now ≡ Some (Demo rounds) → DemoEnds D.honest D.seen D.images D.moment D.since D.faults
+        rounds (change S.left S.faults source.old source.new) (change K.written K.faults sink.old sink.new) disk result.1 result.0 }
+    ensures ends { may_write (asked words.now) ≡ false → Ends (asked words.now) (change S.left S.faults source.old source.new)
         (change K.written K.faults sink.old sink.new) (disk_change D.honest D.seen D.faults disk result.1) result.0 }
-    ensures reads { asked words.now ≢ Some Run → OnlyReads D.honest D.seen D.images D.moment D.since disk result.1 }
+    ensures reads { may_write (asked words.now) ≡ false → OnlyReads D.honest D.seen D.images D.moment D.since disk result.1 }
 {
-    if is_run(command(words)) {
-        return run(alloc, rt, source, sink, disk, gate);
+    match command(words) {
+        Some(Command::Run) => run(alloc, rt, source, sink, disk, gate),
+        Some(Command::Demo(rounds)) => demo(alloc, rt, rounds, sink, disk, gate),
+        _ => {
+            let status = guardian_read(alloc, words, source, sink, &mut disk);
+            (status, disk)
+        }
     }
-    let status = guardian_read(alloc, words, source, sink, &mut disk);
-    (status, disk)
 }

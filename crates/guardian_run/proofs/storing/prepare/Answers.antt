@@ -4,7 +4,7 @@ use Rattle.guardian_run.proofs.storing.prepare.Goals as goal
 
 pub returns-clause-calls : goal.returns-clause-calls
 returns-clause-calls c =
-    calls c.args.scenario.now c.in_ok-arrivals.arrivals.inboxes c.in_ok-senders.senders.items c.requires.fits c.in_ok-arrivals.ensures.arrived c.in_ok-senders.ensures
+    calls c.args.scenario.now c.args.arrivals.now.inboxes c.in_ok-senders.senders.items c.requires.fits c.requires.arrived c.in_ok-senders.ensures
 
 pub returns-clause-few : goal.returns-clause-few
 returns-clause-few c =
