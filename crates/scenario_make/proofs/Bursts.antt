@@ -1,5 +1,5 @@
 -- The bursts of generated scenarios are steps, and their lines are short.
-use Rattle.std.specs.Prelude.{◌≡◌, ◌==◌, ℕ, ◌+◌, ◌<◌, ◌≤◌, ◌%◌, ◌||◌, Bool, true, false, [], ◌∷◌, length, All, map, slice_index, if◌then◌else◌}
+use Rattle.std.specs.Prelude.{◌≡◌, ◌==◌, ℕ, ◌+◌, ◌<◌, ◌≤◌, ◌-◌, ◌%◌, ◌||◌, Bool, true, false, [], ◌∷◌, length, All, map, slice_index, if◌then◌else◌}
 use Rattle.std.specs.Fmt.{decimal, digits}
 use Rattle.std.specs.List.{range_with_len}
 use Rattle.std.proofs.Common.{refl, sym, subst, arith}
@@ -45,16 +45,30 @@ fate_fine m = by (m % 16 == 3) (m % 16 == 7) (m % 16 == 11)
 short_number : (n : ℕ) → n < 100000 → length (decimal n) ≤ 5
 short_number n low = length-decimal-le 5 n (omega arith) (omega (arith, low)) (omega (arith, low))
 
-burst_fine : (at name bytes a b c burst : ℕ) (x : Fate) → at < 8 → 3 ≡ length (flow_at generated_flows at).path → slice_index (names_of generated_flows) at ≡ name → name < 100000 →
-    bytes < 65536 → a < 1000 → b < 1000 → c < 1000 → 1 ≤ burst → size (burst_words burst) ≤ 20 → IsFineFate x → IsFine (Packet at bytes (a ∷ b ∷ c ∷ []) burst x)
-burst_fine at name bytes a b c burst x inside hops named low small da db dc some words fine = record {
-  fits = (inside, hops, subst (λ n. reached x n ≤ n) hops fine.reaches);
-  line = (small, All-cons (λ d. d < 4294967296) a (b ∷ c ∷ []) (omega (arith, da)) (All-cons (λ d. d < 4294967296) b (c ∷ []) (omega (arith, db)) (All-cons (λ d. d < 4294967296) c [] (omega (arith, dc)) (All-nil (λ d. d < 4294967296)))), some);
+-- The flow of that name stands at that position, and has three hops.
+record IsAt (at name : ℕ) : Type 0 where
+  inside : at < 8
+  hops : 3 ≡ length (flow_at generated_flows at).path
+  named : slice_index (names_of generated_flows) at ≡ name
+  low : name < 100000
+
+delays_fit : (a b c : ℕ) → a < 1000 → b < 1000 → c < 1000 → All (λ d. d < 4294967296) (a ∷ b ∷ c ∷ [])
+delays_fit a b c da db dc =
+    All-cons (λ d. d < 4294967296) a (b ∷ c ∷ []) (omega (arith, da))
+    (All-cons (λ d. d < 4294967296) b (c ∷ []) (omega (arith, db))
+    (All-cons (λ d. d < 4294967296) c [] (omega (arith, dc)) (All-nil (λ d. d < 4294967296))))
+
+burst_fine : (at name bytes a b c burst : ℕ) (x : Fate) → IsAt at name → bytes < 65536 → a < 1000 → b < 1000 → c < 1000 → 1 ≤ burst →
+    size (burst_words burst) ≤ 20 → IsFineFate x → IsFine (Packet at bytes (a ∷ b ∷ c ∷ []) burst x)
+burst_fine at name bytes a b c burst x is small da db dc some words fine = record {
+  fits = (is.inside, is.hops, subst (λ n. reached x n ≤ n) is.hops fine.reaches);
+  line = (small, delays_fit a b c da db dc, some);
   short =
-      let named_short : length (decimal (slice_index (names_of generated_flows) at)) ≤ 5 = subst (λ n. length (decimal n) ≤ 5) (sym named) (short_number name low) in
+      let named : length (decimal (slice_index (names_of generated_flows) at)) ≤ 5 =
+      subst (λ n. length (decimal n) ≤ 5) (sym is.named) (short_number name is.low) in
       omega (
         arith,
-        named_short,
+        named,
         short_number bytes (omega (arith, small)),
         short_number a (omega (arith, da)),
         short_number b (omega (arith, db)),
@@ -65,37 +79,49 @@ burst_fine at name bytes a b c burst x inside hops named low small da db dc some
       );
 }
 
-round_burst_fine : (r f at : ℕ) → at < 8 → 3 ≡ length (flow_at generated_flows at).path → slice_index (names_of generated_flows) at ≡ f → f < 100000 →
+-- ---- all of them
+
+each_flow : (P : ℕ → Type 0) → ((at f : ℕ) → at + 1 ≡ f → IsAt at f → P f) → All P flow_names
+each_flow P one = of_each_flow P
+    (one 0 1 refl (record { inside = omega arith; hops = refl; named = refl; low = omega arith }))
+    (one 1 2 refl (record { inside = omega arith; hops = refl; named = refl; low = omega arith }))
+    (one 2 3 refl (record { inside = omega arith; hops = refl; named = refl; low = omega arith }))
+    (one 3 4 refl (record { inside = omega arith; hops = refl; named = refl; low = omega arith }))
+    (one 4 5 refl (record { inside = omega arith; hops = refl; named = refl; low = omega arith }))
+    (one 5 6 refl (record { inside = omega arith; hops = refl; named = refl; low = omega arith }))
+    (one 6 7 refl (record { inside = omega arith; hops = refl; named = refl; low = omega arith }))
+    (one 7 8 refl (record { inside = omega arith; hops = refl; named = refl; low = omega arith }))
+
+round_burst_fine : (r at f : ℕ) → IsAt at f →
     IsFine (Packet at (size_of (burst_number r f)) (delay_of r f 1 ∷ delay_of r f 2 ∷ delay_of r f 3 ∷ []) 20 (fate_of (burst_number r f)))
 unfolding digits
-round_burst_fine r f at inside hops named low = burst_fine at f (size_of (burst_number r f)) (delay_of r f 1) (delay_of r f 2) (delay_of r f 3) 20 (fate_of (burst_number r f)) inside hops named low (omega arith) (omega arith) (omega arith) (omega arith) (omega arith) (omega arith) (fate_fine (burst_number r f))
+round_burst_fine r at f is =
+    burst_fine at f (size_of (burst_number r f)) (delay_of r f 1) (delay_of r f 2) (delay_of r f 3) 20 (fate_of (burst_number r f)) is
+    (omega arith) (omega arith) (omega arith) (omega arith) (omega arith) (omega arith) (fate_fine (burst_number r f))
+
+position : (at f : ℕ) → at + 1 ≡ f → f - 1 ≡ at
+position at f is = omega (arith, is)
 
 round_bursts_fine : (r : ℕ) → All IsFine (map (generated_burst r) flow_names)
-round_bursts_fine r = All-map IsFine (generated_burst r) flow_names (of_each_flow (λ f. IsFine (generated_burst r f))
-    (round_burst_fine r 1 0 (omega arith) refl refl (omega arith))
-    (round_burst_fine r 2 1 (omega arith) refl refl (omega arith))
-    (round_burst_fine r 3 2 (omega arith) refl refl (omega arith))
-    (round_burst_fine r 4 3 (omega arith) refl refl (omega arith))
-    (round_burst_fine r 5 4 (omega arith) refl refl (omega arith))
-    (round_burst_fine r 6 5 (omega arith) refl refl (omega arith))
-    (round_burst_fine r 7 6 (omega arith) refl refl (omega arith))
-    (round_burst_fine r 8 7 (omega arith) refl refl (omega arith)))
+round_bursts_fine r = All-map IsFine (generated_burst r) flow_names (each_flow (λ f. IsFine (generated_burst r f)) one)
+  where
+    one : (at f : ℕ) → at + 1 ≡ f → IsAt at f → IsFine (generated_burst r f)
+    one at f next is =
+        subst (λ k. IsFine (Packet k (size_of (burst_number r f)) (delay_of r f 1 ∷ delay_of r f 2 ∷ delay_of r f 3 ∷ []) 20 (fate_of (burst_number r f))))
+        (sym (position at f next)) (round_burst_fine r at f is)
 
-last_burst_fine : (f at : ℕ) → at < 8 → 3 ≡ length (flow_at generated_flows at).path → slice_index (names_of generated_flows) at ≡ f → f < 100000 →
-    IsFine (Packet at 64 (1 ∷ 1 ∷ 1 ∷ []) 32 fates.Straight)
+last_burst_fine : (at f : ℕ) → IsAt at f → IsFine (Packet at 64 (1 ∷ 1 ∷ 1 ∷ []) 32 fates.Straight)
 unfolding digits
-last_burst_fine f at inside hops named low = burst_fine at f 64 1 1 1 32 fates.Straight inside hops named low (omega arith) (omega arith) (omega arith) (omega arith) (omega arith) (omega arith) (record { reaches = omega arith; short = omega arith })
+last_burst_fine at f is =
+    burst_fine at f 64 1 1 1 32 fates.Straight is (omega arith) (omega arith) (omega arith) (omega arith) (omega arith) (omega arith)
+    (record { reaches = omega arith; short = omega arith })
 
 last_bursts_fine : All IsFine (map last_burst flow_names)
-last_bursts_fine = All-map IsFine last_burst flow_names (of_each_flow (λ f. IsFine (last_burst f))
-    (last_burst_fine 1 0 (omega arith) refl refl (omega arith))
-    (last_burst_fine 2 1 (omega arith) refl refl (omega arith))
-    (last_burst_fine 3 2 (omega arith) refl refl (omega arith))
-    (last_burst_fine 4 3 (omega arith) refl refl (omega arith))
-    (last_burst_fine 5 4 (omega arith) refl refl (omega arith))
-    (last_burst_fine 6 5 (omega arith) refl refl (omega arith))
-    (last_burst_fine 7 6 (omega arith) refl refl (omega arith))
-    (last_burst_fine 8 7 (omega arith) refl refl (omega arith)))
+last_bursts_fine = All-map IsFine last_burst flow_names (each_flow (λ f. IsFine (last_burst f)) one)
+  where
+    one : (at f : ℕ) → at + 1 ≡ f → IsAt at f → IsFine (last_burst f)
+    one at f next is =
+        subst (λ k. IsFine (Packet k 64 (1 ∷ 1 ∷ 1 ∷ []) 32 fates.Straight)) (sym (position at f next)) (last_burst_fine at f is)
 
 end_fine : (b : Bool) → All IsFine (if b then EndAll ∷ [] else [])
 end_fine true = All-cons IsFine EndAll [] (record { fits = tt; line = tt; short = omega arith }) (All-nil IsFine)
@@ -105,4 +131,6 @@ round_fine : (n r : ℕ) → All IsFine (generated_round n r)
 round_fine n r = All-append IsFine (map (generated_burst r) flow_names) (generated_end n r) (round_bursts_fine r) (end_fine (r % 10 == 9 || r + 1 == n))
 
 pub steps_fine : (n : ℕ) → All IsFine (generated_steps n)
-steps_fine n = All-append IsFine (generated_rounds n) (map last_burst flow_names) (of_all_pieces IsFine (generated_round n) (range_with_len 0 n) (round_fine n)) last_bursts_fine
+steps_fine n =
+    let rounds = of_all_pieces IsFine (generated_round n) (range_with_len 0 n) (round_fine n) in
+    All-append IsFine (generated_rounds n) (map last_burst flow_names) rounds last_bursts_fine

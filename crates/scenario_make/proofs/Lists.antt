@@ -49,6 +49,7 @@ of_all_pieces P f (x ∷ xs) each = All-append P (f x) (flat_map f xs) (each x) 
 pub length_of_pieces : {X A : Type 0} (f : X → List A) (most : ℕ) (xs : List X) → ((x : X) → length (f x) ≤ most) → length (flat_map f xs) ≤ length xs * most
 length_of_pieces f most xs each = omega (arith, length-flat_map f xs, sum_by-le (λ x. length (f x)) most xs (λ k d lt. each _))
 
-pub sum_of_pieces : {X A : Type 0} (g : A → ℕ) (f : X → List A) (one : ℕ) (xs : List X) → ((x : X) → sum_by g (f x) ≡ one) → sum_by g (flat_map f xs) ≡ length xs * one
+pub sum_of_pieces : {X A : Type 0} (g : A → ℕ) (f : X → List A) (one : ℕ) (xs : List X) → ((x : X) → sum_by g (f x) ≡ one) →
+    sum_by g (flat_map f xs) ≡ length xs * one
 sum_of_pieces g f one [] each = omega arith
 sum_of_pieces g f one (x ∷ xs) each = omega (arith, sum_by-append g (f x) (flat_map f xs), each x, sum_of_pieces g f one xs each)

@@ -14,8 +14,8 @@ use Rattle.scenario_text.proofs.InRangeLemmas.{whole_in_range}
 use Rattle.scenario_make.specs.Generator.{generated, generated_shape, generated_hosts, generated_switches, generated_flows, generated_steps, generated_asks, IsGenerated}
 
 module _ (n : ℕ) (shape : Shape) (hosts : List HostLine) (switches : List ℕ) (flows : List Flow) (steps : List Step) (asks : List Ask)
-    (shape_is : shape ≡ generated_shape n) (hosts_is : hosts ≡ generated_hosts) (switches_is : switches ≡ generated_switches) (flows_is : flows ≡ generated_flows)
-    (steps_is : steps ≡ generated_steps n) (asks_is : asks ≡ generated_asks) where
+    (shape_is : shape ≡ generated_shape n) (hosts_is : hosts ≡ generated_hosts) (switches_is : switches ≡ generated_switches)
+    (flows_is : flows ≡ generated_flows) (steps_is : steps ≡ generated_steps n) (asks_is : asks ≡ generated_asks) where
   pub made : parts_of shape Turns hosts switches flows steps asks ≡ generated n
   made =
       ap (λ x. parts_of x Turns hosts switches flows steps asks) shape_is ∙ ap (λ x. parts_of (generated_shape n) Turns x switches flows steps asks) hosts_is

@@ -30,7 +30,8 @@ round_len n r = omega (arith, length-append (map (generated_burst r) flow_names)
 
 steps_len : (n : ℕ) → length (generated_steps n) ≤ n * 9 + 8
 steps_len n =
-    omega (arith, length-append (generated_rounds n) (map last_burst flow_names), length_of_pieces (generated_round n) 9 (range_with_len 0 n) (round_len n), length-range_with_len 0 n)
+    let rounds = length_of_pieces (generated_round n) 9 (range_with_len 0 n) (round_len n) in
+    omega (arith, length-append (generated_rounds n) (map last_burst flow_names), rounds, length-range_with_len 0 n)
 
 end_sends : (b : Bool) → sum_by burst_of (if b then EndAll ∷ [] else []) ≡ 0
 end_sends true = refl
@@ -42,7 +43,8 @@ round_sends n r =
 
 packets : (n : ℕ) → packet_count (generated_steps n) ≡ 160 * n + 256
 packets n =
-    omega (arith, sum_by-append burst_of (generated_rounds n) (map last_burst flow_names), sum_of_pieces burst_of (generated_round n) 160 (range_with_len 0 n) (round_sends n), length-range_with_len 0 n)
+    let rounds = sum_of_pieces burst_of (generated_round n) 160 (range_with_len 0 n) (round_sends n) in
+    omega (arith, sum_by-append burst_of (generated_rounds n) (map last_burst flow_names), rounds, length-range_with_len 0 n)
 
 -- ---- how long the text is
 
