@@ -30,19 +30,48 @@ fn told<R: Threads + Wait + Sync>(
 fn demonstrations(rt: HostRuntime) -> Result<(), Fail> {
     let alloc = rt.alloc();
     for (line, summary) in [
-        ("demo 1", "demo 1\npackets 416\narrived 256\ncolumns 64\nasks 8 unknown 0\n"),
-        ("demo 2", "demo 2\npackets 576\narrived 256\ncolumns 64\nasks 8 unknown 0\n"),
-        ("demo 10", "demo 10\npackets 1856\narrived 256\ncolumns 64\nasks 8 unknown 0\n"),
-        ("demo 100", "demo 100\npackets 16256\narrived 14656\ncolumns 640\nasks 8 unknown 0\n"),
+        (
+            "demo 1",
+            "demo 1\npackets 416\narrived 256\ncolumns 64\nasks 8 unknown 0\n",
+        ),
+        (
+            "demo 2",
+            "demo 2\npackets 576\narrived 256\ncolumns 64\nasks 8 unknown 0\n",
+        ),
+        (
+            "demo 10",
+            "demo 10\npackets 1856\narrived 256\ncolumns 64\nasks 8 unknown 0\n",
+        ),
+        (
+            "demo 100",
+            "demo 100\npackets 16256\narrived 14656\ncolumns 640\nasks 8 unknown 0\n",
+        ),
     ] {
         let (status, first, disk) = told(&rt, alloc, line, MemoryDisk::new(alloc, Vec::new(alloc))?)?;
-        assert_eq!(rt; (status, first.as_slice()), (Status::Ok, summary.as_bytes()));
+        assert_eq!(rt;
+            (status, first.as_slice()),
+            (Status::Ok, summary.as_bytes())
+        );
         let (status, again, other) = told(&rt, alloc, line, MemoryDisk::new(alloc, Vec::new(alloc))?)?;
         assert_eq!(rt; (status, again.as_slice()), (Status::Ok, first.as_slice()));
         let (_, list, _) = told(&rt, alloc, "list", disk)?;
         let (_, other, _) = told(&rt, alloc, "list", other)?;
         assert_eq!(rt; list.as_slice(), other.as_slice());
     }
+    Ok(())
+}
+
+// The greatest one.
+#[test]
+fn a_demonstration_of_all_rounds(rt: HostRuntime) -> Result<(), Fail> {
+    let alloc = rt.alloc();
+    let summary = b"demo 1000\npackets 160256\narrived 158656\ncolumns 6400\nasks 8 unknown 0\n";
+    let disk = MemoryDisk::new(alloc, Vec::new(alloc))?;
+    let (status, written, _) = told(&rt, alloc, "demo 1000", disk)?;
+    assert_eq!(rt;
+        (status, written.as_slice()),
+        (Status::Ok, summary.as_slice())
+    );
     Ok(())
 }
 
