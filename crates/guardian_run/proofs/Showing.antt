@@ -1,5 +1,5 @@
 -- How a demonstration ends, by how a run would.
-use Rattle.std.specs.Prelude.{◌≡◌, ◌⊎◌, ℕ, ◌≤◌, List, Some, IfOk, IfErr, Result, Ok, Err}
+use Rattle.std.specs.Prelude.{◌≡◌, ◌⊎◌, ℕ, ◌≤◌, List, IfOk, IfErr, Result, Ok, Err}
 use Rattle.std.proofs.Common.{refl, sym, ap, ◌∙◌, subst, arith, inl, inr}
 use Rattle.lg_base.specs.Causes.{Rose}
 use Rattle.lg_base.specs.declared.faults.Memory.{Memory}
@@ -11,7 +11,6 @@ use Rattle.column_book.specs.Entries.{records, content_in}
 use Rattle.book_file.specs.declared.found.OpenFault.{OpenFault}
 use Rattle.book_file.specs.declared.found.OpenFault.TheVariants as file
 use Rattle.book_file.specs.File.{StandsFor}
-use Rattle.book_journal.specs.Crashes.{OnlyReads}
 use Rattle.book_journal.specs.Opening.{OpenLeaves}
 use Rattle.book_journal.specs.Runs.{JournalState, with_fault}
 use Rattle.book_laws.specs.Laws.{LawOfStanding, LawOfTrueLists}
@@ -26,7 +25,7 @@ use Rattle.guardian_run.specs.Refusals.{file_refusal}
 use Rattle.guardian_run.specs.Ends.{IsOutputEnd, Puts}
 use Rattle.guardian_run.specs.Ending.{EndsWith, EndsWithLine, EndsRefused}
 use Rattle.shared_book.specs.Going.{GoesOn}
-use Rattle.guardian_run.specs.Running.{RunSays, IsStart, HasUploaded, RunsFrom}
+use Rattle.guardian_run.specs.Running.{RunSays, IsStart, RunsFrom}
 use Rattle.guardian_run.specs.Telling.{EndsTold, HasRun}
 use Rattle.guardian_run.specs.Showing.{summary, HasShown, ShowsFrom, DemoEnds, ShowsTold}
 use Rattle.guardian_run.proofs.RunEnding.{is_run_kept, run_ends, completes_by, no_read}

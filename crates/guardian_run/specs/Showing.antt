@@ -6,7 +6,6 @@ use Rattle.lg_model.specs.Scenario.{Scenario, packet_count}
 use Rattle.lg_model.specs.Carrying.{picked}
 use Rattle.lg_model.specs.Arriving.{brought_to_all}
 use Rattle.lg_model.specs.Answer.{Content, answered}
-use Rattle.sketchlet_wire.specs.Uploads.{UploadData}
 use Rattle.column_book.specs.Entries.{records, content_in}
 use Rattle.scenario_make.specs.Generator.{generated}
 use Rattle.book_journal.specs.Crashes.{OnlyReads}

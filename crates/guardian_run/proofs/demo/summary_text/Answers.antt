@@ -7,7 +7,7 @@ use Rattle.lg_model.specs.Answer.{Content}
 use Rattle.column_book.specs.Entries.{content}
 use Rattle.report_text.specs.declared.summary.Summary.{Summary}
 use Rattle.report_text.specs.Summary.{summary_lines}
-use Rattle.guardian_run.specs.Showing.{is_unknown, summary_of, summary}
+use Rattle.guardian_run.specs.Showing.{is_unknown, summary_of}
 use Rattle.guardian_run.proofs.demo.summary_text.Goals as goal
 
 abbrev figures : (rounds packets arrived columns asks unknown : ℕ) → Summary
