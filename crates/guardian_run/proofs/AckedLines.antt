@@ -1,5 +1,5 @@
 -- The lines of the acknowledged uploads, host after host.
-use Rattle.std.specs.Prelude.{◌≡◌, ℕ, zero, suc, ◌+◌, ◌<◌, if◌then◌else◌, List, [], ◌∷◌, ◌++◌, length, map, Option, slice_index_or}
+use Rattle.std.specs.Prelude.{◌≡◌, ℕ, suc, ◌+◌, ◌<◌, if◌then◌else◌, List, [], ◌∷◌, ◌++◌, length, map, Option, slice_index_or}
 use Rattle.std.specs.List.{flat_map, enumerate_from, range_with_len}
 use Rattle.std.proofs.Common.{refl, sym, ap, ◌∙◌, arith, append_assoc, append-nil}
 use Rattle.std.proofs.lemmas.Grind.{flat_map-append}
@@ -7,10 +7,9 @@ use Rattle.std.proofs.lemmas.List.{get_or-map, get_or_default}
 use Rattle.lg_model.specs.declared.scenario.HostLine.{HostLine}
 use Rattle.lg_model.specs.Scenario.{Scenario}
 use Rattle.column_book.specs.declared.entry.Entry.{Entry}
-use Rattle.uploader_core.specs.declared.state.SeqState.{SeqState}
 use Rattle.uploader_core.specs.Uploader.{UploaderState}
 use Rattle.upload_world.specs.Pumps.{acked_at}
-use Rattle.book_laws.specs.Legal.{no_host, host_at, uploads_at}
+use Rattle.book_laws.specs.Legal.{no_host}
 use Rattle.host_workers.specs.declared.sender.Sender.{Sender}
 use Rattle.report_text.specs.Columns.{acked_line}
 use Rattle.guardian_run.specs.Running.{acked_of, acked_lines}

@@ -1,50 +1,44 @@
 -- What the hosts send, and what follows once the workers are done.
-use Rattle.std.specs.Prelude.{◌≡◌, ℕ, zero, suc, ◌+◌, ◌*◌, ◌<◌, ◌≤◌, ◌^◌, List, [], ◌∷◌, ◌++◌, length, map, replicate, All, Any, Option, None, Some, Result, Ok, Err, IsOk, slice_index_or, slice_get}
+use Rattle.std.specs.Prelude.{◌≡◌, ℕ, zero, suc, ◌+◌, ◌<◌, ◌≤◌, List, [], ◌∷◌, ◌++◌, length, map, replicate, All, Option, Some, slice_index_or, slice_get}
 use Rattle.std.specs.List.{range_with_len, enumerate_from, flat_map, AllByRecursion}
-use Rattle.std.proofs.Common.{refl, sym, ap, subst, ◌∙◌, arith, get_or, length-append}
+use Rattle.std.proofs.Common.{refl, sym, ap, subst, ◌∙◌, arith, length-append}
 use Rattle.std.proofs.lemmas.List.{length-map, get_or-map, map-append, get_or_default}
 use Rattle.std.proofs.lemmas.List.FromFn.{length-range_with_len, get_or-range_with_len, length-enumerate_from}
-use Rattle.std.proofs.lemmas.List.Elements.{All-cons, All-nil, All-from_recursion}
-use Rattle.lg_model.specs.declared.limits.TheConstants.{MOST_LETTERS, MOST_PACKETS}
 use Rattle.lg_model.specs.declared.scenario.HostLine.{HostLine}
 use Rattle.lg_model.specs.declared.scenario.Letter.{Letter}
 use Rattle.lg_model.specs.Placing.{Shape}
 use Rattle.lg_model.specs.Scenario.{Scenario, packet_count}
 use Rattle.lg_model.specs.Carrying.{picked}
 use Rattle.lg_model.specs.Arriving.{brought}
-use Rattle.lg_model.specs.Columns.{Column}
-use Rattle.scenario_lines.specs.Readable.{IsHostLine}
 use Rattle.scenario_parts.specs.Whole.{IsWhole}
 use Rattle.lg_model.proofs.Pairing.{matched_length}
 use Rattle.sketchlet_wire.specs.declared.packed.Packed.{Packed}
 use Rattle.sketchlet_wire.specs.Packing.{IsPacked}
 use Rattle.sketchlet_wire.specs.Uploads.{UploadData, IsUpload, upload_of}
 use Rattle.path_sim.specs.Arrived.{HaveArrived}
-use Rattle.host_collect.specs.Cutting.{Piece, cut, numbered}
+use Rattle.host_collect.specs.Cutting.{Piece, cut}
 use Rattle.host_collect.proofs.Cutting.{cut_law}
 use Rattle.column_book.specs.declared.book.TheConstants.{ROOM}
 use Rattle.column_book.specs.declared.entry.Entry.{Entry}
 use Rattle.column_book.specs.Entries.{records}
-use Rattle.uploader_core.specs.declared.state.SeqState.{SeqState}
 use Rattle.uploader_core.specs.declared.state.SeqState.TheVariants as state
 use Rattle.uploader_core.specs.Uploader.{UploaderState, AreOwn}
 use Rattle.link_deliveries.specs.Waiting.{is_refused, refusals}
 use Rattle.link_deliveries.specs.Deliveries.{deliveries}
 use Rattle.lock_rule.specs.declared.view.Doing.TheVariants.{Idle}
-use Rattle.lock_rule.specs.Views.{most_calls, new_pass}
-use Rattle.upload_world.specs.declared.fault.WorkFault.{WorkFault}
+use Rattle.lock_rule.specs.Views.{new_pass}
 use Rattle.upload_world.specs.Pumps.{Pumps}
 use Rattle.book_laws.specs.Keeping.{HasKeysOnce}
-use Rattle.book_laws.specs.Legal.{host_at, no_host, uploads_at, upload_at}
+use Rattle.book_laws.specs.Legal.{host_at, no_host, uploads_at}
 use Rattle.book_laws.specs.Workers.{Worker, IsWork}
-use Rattle.book_laws.specs.Laws.{HasWorked, LawOfWorkers}
+use Rattle.book_laws.specs.Laws.{LawOfWorkers}
 use Rattle.book_laws.proofs.Uploads.{numbered_at}
 use Rattle.link_deliveries.proofs.Idle.{count-cons}
 use Rattle.upload_world.proofs.Sending.{upload_is}
 use Rattle.guardian_run.proofs.Keeping.{range_more}
 use Rattle.host_workers.specs.declared.sender.Sender.{Sender}
-use Rattle.host_workers.specs.Working.{HasCallsFor, HaveWorked, IsWorkOf, outcome_of}
-use Rattle.guardian_run.specs.Sending.{uploader_at, sending_at, sending_of, AreSenders, HaveSent}
+use Rattle.host_workers.specs.Working.{HasCallsFor, HaveWorked}
+use Rattle.guardian_run.specs.Sending.{sending_at, sending_of, AreSenders, HaveSent}
 
 -- ---- lists
 

@@ -1,4 +1,4 @@
-use Rattle.std.proofs.Common.{◌≡◌, ◌≤◌, length, arith}
+use Rattle.std.proofs.Common.{◌≤◌, length, arith}
 use Rattle.guardian_run.proofs.Sent.{calls, senders_count}
 use Rattle.guardian_run.proofs.storing.prepare.Goals as goal
 

@@ -1,4 +1,4 @@
-use Rattle.std.proofs.Common.{◌≡◌, ◌+◌, ◌++◌, ◌∷◌, ◌∙◌, [], List, length, slice_index_or, arith, sym, ap, subst, Ok}
+use Rattle.std.proofs.Common.{◌+◌, ◌∙◌, sym, ap, subst, Ok}
 use Rattle.lg_model.specs.declared.scenario.HostLine.{HostLine}
 use Rattle.host_workers.specs.declared.sender.Sender.{Sender}
 use Rattle.guardian_run.specs.Sending.{AreSenders}

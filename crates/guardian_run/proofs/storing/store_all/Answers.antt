@@ -1,5 +1,4 @@
-use Rattle.std.proofs.Common.{◌≡◌, subst}
-use Rattle.book_journal.specs.Runs.{JournalState}
+use Rattle.std.proofs.Common.{subst}
 use Rattle.host_workers.specs.Working.{HaveWorked}
 use Rattle.guardian_run.proofs.Sent.{sent}
 use Rattle.guardian_run.proofs.storing.store_all.Goals as goal

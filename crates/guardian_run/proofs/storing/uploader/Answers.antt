@@ -1,4 +1,4 @@
-use Rattle.std.proofs.Common.{◌≡◌, ◌<◌, ◌∙◌, List, length, slice_index_or, arith, sym, ap, subst}
+use Rattle.std.proofs.Common.{◌<◌, List, length, arith, sym, ap, subst}
 use Rattle.lg_model.specs.Carrying.{picked}
 use Rattle.lg_model.specs.Arriving.{brought}
 use Rattle.lg_model.specs.Matching.{Matched}

@@ -1,4 +1,3 @@
-use Rattle.std.proofs.Common.{◌≡◌}
 use Rattle.guardian_run.proofs.AckedLines.{line_more}
 use Rattle.guardian_run.proofs.telling.put_acked.Goals as goal
 

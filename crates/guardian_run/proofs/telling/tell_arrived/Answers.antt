@@ -1,4 +1,4 @@
-use Rattle.std.proofs.Common.{◌≡◌, List, sym, subst}
+use Rattle.std.proofs.Common.{List, sym, subst}
 use Rattle.lg_base.specs.Causes.{Rose}
 use Rattle.report_text.specs.Faults.{no_memory_line}
 use Rattle.host_workers.specs.declared.sender.Sender.{Sender}
