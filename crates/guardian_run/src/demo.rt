@@ -125,7 +125,13 @@ fn show<D: Disk + Send, G: Gate, R: Threads + Wait + Sync>(
     };
     let (told, journal) = tell_arrived(alloc, rt, scenario, &arrivals, journal, gate);
     match told {
-        Ok(Told::Report(_)) => match summary_text(alloc, rounds, scenario, &arrivals, journal.book()) {
+        Ok(Told::Report(_)) => match summary_text(
+            alloc,
+            rounds,
+            scenario,
+            &arrivals,
+            journal.book(),
+        ) {
             Ok(text) => (Ok(Told::Report(text)), journal),
             Err(_) => (Err(Memory), journal),
         },

@@ -47,12 +47,22 @@ fn demonstrations(rt: HostRuntime) -> Result<(), Fail> {
             "demo 100\npackets 16256\narrived 14656\ncolumns 640\nasks 8 unknown 0\n",
         ),
     ] {
-        let (status, first, disk) = told(&rt, alloc, line, MemoryDisk::new(alloc, Vec::new(alloc))?)?;
+        let (status, first, disk) = told(
+            &rt,
+            alloc,
+            line,
+            MemoryDisk::new(alloc, Vec::new(alloc))?,
+        )?;
         assert_eq!(rt;
             (status, first.as_slice()),
             (Status::Ok, summary.as_bytes())
         );
-        let (status, again, other) = told(&rt, alloc, line, MemoryDisk::new(alloc, Vec::new(alloc))?)?;
+        let (status, again, other) = told(
+            &rt,
+            alloc,
+            line,
+            MemoryDisk::new(alloc, Vec::new(alloc))?,
+        )?;
         assert_eq!(rt; (status, again.as_slice()), (Status::Ok, first.as_slice()));
         let (_, list, _) = told(&rt, alloc, "list", disk)?;
         let (_, other, _) = told(&rt, alloc, "list", other)?;
@@ -80,7 +90,12 @@ fn a_demonstration_of_all_rounds(rt: HostRuntime) -> Result<(), Fail> {
 fn demonstrations_over_a_book(rt: HostRuntime) -> Result<(), Fail> {
     let alloc = rt.alloc();
     let other = b"guardian: shape 4 16 seed 1 in the book, 4 16 seed 2 asked\n";
-    let (_, first, disk) = told(&rt, alloc, "demo 1", MemoryDisk::new(alloc, Vec::new(alloc))?)?;
+    let (_, first, disk) = told(
+        &rt,
+        alloc,
+        "demo 1",
+        MemoryDisk::new(alloc, Vec::new(alloc))?,
+    )?;
     let (_, list, disk) = told(&rt, alloc, "list", disk)?;
     let (status, again, disk) = told(&rt, alloc, "demo 1", disk)?;
     assert_eq!(rt; (status, again.as_slice()), (Status::Ok, first.as_slice()));
