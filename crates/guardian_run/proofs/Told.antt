@@ -1,27 +1,22 @@
 -- What the uploads of a run made of the journal, by what is told.
-use Rattle.std.specs.Prelude.{◌≡◌, ◌⊎◌, ℕ, zero, suc, ◌<◌, ◌≤◌, true, false, List, [], ◌∷◌, ◌++◌, length, map, All, Any, Option, None, Some, Bool, is_some, Result, Ok, Err, IsOk, IfOk, IfErr, slice_index_or, slice_get}
+use Rattle.std.specs.Prelude.{◌≡◌, ◌⊎◌, ℕ, zero, suc, ◌<◌, ◌≤◌, false, List, [], ◌∷◌, ◌++◌, length, map, All, Any, Option, None, Some, Bool, is_some, Result, Ok, Err, IsOk, IfOk, IfErr, slice_index_or, slice_get}
 use Rattle.std.specs.List.{flat_map}
 use Rattle.std.proofs.Common.{refl, sym, ap, ◌∙◌, subst, inl, inr, arith, true≢false}
 use Rattle.std.proofs.lemmas.List.{append-nil, length-map, get_or-map, map-append}
 use mathlib.Core.List.{IsPrefix}
-use Rattle.lg_model.specs.declared.column.Key.{Key}
-use Rattle.lg_model.specs.Columns.{Column}
 use Rattle.lg_model.specs.Scenario.{Scenario}
 use Rattle.column_book.specs.declared.entry.Entry.{Entry}
 use Rattle.column_book.specs.Entries.{records}
-use Rattle.sketchlet_wire.specs.Uploads.{UploadData}
 use Rattle.scenario_parts.specs.Whole.{IsWhole}
 use Rattle.uploader_core.specs.declared.state.SeqState.{SeqState}
-use Rattle.link_deliveries.specs.Deliveries.{delivered}
 use Rattle.book_journal.specs.declared.applied.ApplyFault.{ApplyFault}
 use Rattle.book_journal.specs.declared.applied.ApplyFault.TheVariants as faults
 use Rattle.book_journal.specs.Runs.{JournalState, IsRun, start_of, with_fault}
 use Rattle.upload_world.specs.declared.fault.WorkFault.{WorkFault}
 use Rattle.upload_world.specs.declared.fault.WorkFault.TheVariants.{Refused}
 use Rattle.upload_world.specs.Pumps.{acked_at}
-use Rattle.book_laws.specs.Legal.{IsLegal}
-use Rattle.book_laws.specs.Keeping.{Acks, AreAcked}
-use Rattle.book_laws.specs.Workers.{Worker, acks_of, AllDone, IsExplained}
+use Rattle.book_laws.specs.Keeping.{AreAcked}
+use Rattle.book_laws.specs.Workers.{Worker, AllDone, IsExplained}
 use Rattle.shared_book.specs.Going.{GoesOn}
 use Rattle.host_workers.specs.declared.sender.Sender.{Sender}
 use Rattle.host_workers.specs.Working.{outcome_of}

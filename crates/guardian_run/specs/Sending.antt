@@ -1,18 +1,14 @@
 -- What the hosts of a run send, and what became of it.
-use Rattle.std.specs.Prelude.{◌≡◌, ℕ, ◌<◌, ◌++◌, List, [], length, map, take, replicate, slice_index_or, Option, None, Some}
-use Rattle.std.specs.Prelude.{Result, Ok, Err, Any, All, if◌then◌else◌}
+use Rattle.std.specs.Prelude.{◌≡◌, ℕ, ◌<◌, List, [], length, map, take, replicate, slice_index_or, Option, Some}
+use Rattle.std.specs.Prelude.{Ok, Err, Any, All, if◌then◌else◌}
 use Rattle.std.specs.List.{flat_map, range_with_len}
-use Rattle.lg_base.specs.declared.faults.Memory.{Memory}
 use Rattle.lg_model.specs.declared.scenario.Letter.{Letter}
 use Rattle.lg_model.specs.Scenario.{Scenario}
 use Rattle.column_book.specs.declared.entry.Entry.{Entry}
-use Rattle.column_book.specs.Entries.{content}
-use Rattle.uploader_core.specs.declared.state.SeqState.{SeqState}
 use Rattle.uploader_core.specs.declared.state.SeqState.TheVariants as state
 use Rattle.uploader_core.specs.Uploader.{UploaderState}
 use Rattle.book_journal.specs.declared.applied.ApplyFault.{ApplyFault}
 use Rattle.book_journal.specs.declared.applied.ApplyFault.TheVariants as faults
-use Rattle.book_journal.specs.Runs.{JournalState}
 use Rattle.upload_world.specs.declared.fault.WorkFault.{WorkFault}
 use Rattle.upload_world.specs.declared.fault.WorkFault.TheVariants.{Refused}
 use Rattle.upload_world.specs.Pumps.{acked_at}

@@ -227,10 +227,7 @@ fn many_hosts(alloc: Global) -> Result<Vec<u8>, Fail> {
     let mut text = b"guardian 1\nshape 2 1 ports\npick turns\n".to_vec(alloc)?;
     put_lines(&mut text, b"host #\n")?;
     text.extend_from_slice(b"switch 1\n")?;
-    put_lines(
-        &mut text,
-        b"flow # 10.0.0.1 10.0.0.2 6 2 1 host # path 1\n",
-    )?;
+    put_lines(&mut text, b"flow # 10.0.0.1 10.0.0.2 6 2 1 host # path 1\n")?;
     put_lines(&mut text, b"link # raxh\n")?;
     text.extend_from_slice(b"packet 10 1500 20\nend 1\n")?;
     put_lines(&mut text, b"packet # 100 5\npacket # 100 5\n")?;
@@ -245,7 +242,10 @@ fn all_hosts_at_once(rt: HostRuntime) -> Result<(), Fail> {
     let report = "flow 10 switch 1 epoch 0 rows 2 of 2 bytes 1500 delay 20\ncolumns 1\n";
     let disk = MemoryDisk::new(alloc, Vec::new(alloc))?;
     let (status, written, disk) = told(&rt, alloc, "run", many_hosts(alloc)?, disk)?;
-    assert_eq!(rt; (status, written.as_slice()), (Status::Ok, report.as_bytes()));
+    assert_eq!(rt;
+        (status, written.as_slice()),
+        (Status::Ok, report.as_bytes())
+    );
     assert_eq!(rt; disk.bytes().len(), ONE_FILE.len());
     Ok(())
 }

@@ -1,8 +1,8 @@
 use crate::{
-    Summary, answer_line, blank_line, damaged_line, disk_fault_line, full_line, hex_line, missing_line,
-    no_memory_line, not_a_journal_line, put_answer_line, put_columns_line, put_full_line,
-    put_hex_line, put_rebuilt_line, put_scenario_line, put_sketchlets_line, put_summary, read_fault_line,
-    scenario_line, shape_line, usage_line,
+    Summary, answer_line, blank_line, damaged_line, disk_fault_line, full_line, hex_line,
+    missing_line, no_memory_line, not_a_journal_line, put_answer_line, put_columns_line,
+    put_full_line, put_hex_line, put_rebuilt_line, put_scenario_line, put_sketchlets_line,
+    put_summary, read_fault_line, scenario_line, shape_line, usage_line,
 };
 use lg_model::{Answer, Dims, Hash, Shape, Value};
 use scenario_lines::Why;

@@ -1,4 +1,4 @@
-use Rattle.std.proofs.Common.{◌≡◌, List, sym, subst}
+use Rattle.std.proofs.Common.{subst}
 use Rattle.guardian_run.specs.Sending.{IsFirstMet}
 use Rattle.guardian_run.proofs.Told.{told_fault, told_stop, none_of}
 use Rattle.guardian_run.proofs.telling.conclude.Goals as goal

@@ -1,4 +1,4 @@
-use Rattle.std.specs.Prelude.{◌≡◌, All, take}
+use Rattle.std.specs.Prelude.{All, take}
 use Rattle.guardian_run.specs.Sending.{IsFine}
 use Rattle.guardian_run.proofs.telling.first_fault.Given as goal
 
