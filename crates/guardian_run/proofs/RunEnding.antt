@@ -29,6 +29,7 @@ use Rattle.run_laws.specs.Truth.{IsFrozenColumn, book_of}
 use Rattle.run_laws.proofs.Agreeing.{cells_at}
 use Rattle.run_laws.proofs.True.{true_run}
 use Rattle.link_deliveries.specs.Deliveries.{delivered}
+use Rattle.book_laws.proofs.Leaving.{law as files_left}
 use Rattle.book_laws.specs.Keeping.{Acks, IsClash}
 use Rattle.book_laws.specs.Laws.{LawOfStanding, LawOfTrueLists}
 use Rattle.book_laws.proofs.Contents.{of_if, some_found}
@@ -189,6 +190,9 @@ module _ {D : Type 0} (honest : D → Type 0) (seen : D → List ℕ) (images : 
       acked = ran.acked;
       stood = stands;
       left = λ h. leaving.left honest seen images moment since w standing start j0 j1 (ran.shape ∙ shape) (stands h) (leaves h) (run_is h) ran.legal;
+      files = λ h. files_left (images start) (images j1.disk) (since j1.disk (moment start)) delivered w (records j0.entries) (records j1.entries)
+          (records (with_fault j1.entries j1.fault))
+          (leaving.left honest seen images moment since w standing start j0 j1 (ran.shape ∙ shape) (stands h) (leaves h) (run_is h) ran.legal);
       read = λ h. leaving.read honest seen images moment since w standing start j0 j1 (ran.shape ∙ shape) (stands h) (leaves h) (run_is h) reads_image;
       repeats = λ h written all is.
           let r = ran.repeats all (ok is) in

@@ -20,7 +20,7 @@ use Rattle.book_journal.specs.Opening.{OpenLeaves}
 use Rattle.run_laws.specs.Truth.{book_of}
 use Rattle.link_deliveries.specs.Deliveries.{delivered}
 use Rattle.book_laws.specs.Legal.{uploads_at}
-use Rattle.book_laws.specs.Leaving.{IsLeft}
+use Rattle.book_laws.specs.Leaving.{IsLeft, IsLeftByFiles}
 use Rattle.book_laws.specs.Keeping.{Acks, AllHeld, AreAcked, IsJoined, IsClash, IsOverfull}
 use Rattle.book_laws.specs.Truth.{IsTrueFrom}
 use Rattle.report_text.specs.Columns.{acked_line}
@@ -121,8 +121,8 @@ pub record IsStart {D : Type 0} (honest : D → Type 0) (seen : D → List ℕ) 
   pub reads : honest old → (IsBlank (seen old) → ⊥) → OnlyReads honest seen images moment since old new
 
 -- Uploads were made, from the list `before`, for which the file of an honest disk stood. What they leave is legal at
--- each moment, and each acknowledged upload is in it; what is told of it is true; and where all that is brought was
--- there, the file is as before.
+-- each moment, file by file too, and each acknowledged upload is in it; what is told of it is true; and where all that
+-- is brought was there, the file is as before.
 pub record HasUploaded {D : Type 0} (honest : D → Type 0) (seen : D → List ℕ) (images : D → List ℕ → Type 0)
     (moment : D → ℕ) (since : D → ℕ → List ℕ → Type 0) (rose : Type 0) (w : Scenario) (s : Status) (text : List ℕ)
     (old new : D) : Type 0 where
@@ -133,6 +133,8 @@ pub record HasUploaded {D : Type 0} (honest : D → Type 0) (seen : D → List �
   pub stood : honest old → StandsFor w.shape before (seen old)
   pub left : honest old →
       IsLeft (StandsFor w.shape) delivered w before (images old) (images new) (since new (moment old)) kept full
+  pub files : honest old →
+      IsLeftByFiles (StandsFor w.shape) delivered w before (images old) (images new) (since new (moment old))
   pub read : honest old → StandsFor w.shape kept (seen new) ⊎ StandsFor w.shape full (seen new)
   pub repeats : honest old → (IsBlank (seen old) → ⊥) → AllHeld w before → s ≡ status.Ok → seen new ≡ seen old
   pub acks : AreAcked w before kept acked
