@@ -159,7 +159,7 @@ fn reports(rt: HostRuntime) -> Result<(), Fail> {
                 flow 2 switch 1 epoch 0 rows 2 of 2 bytes 50 delay 30\n\
                 flow 3 switch 1 epoch 0 rows 2 of 2 bytes 0 delay 0\ncolumns 2\n",
         ),
-        // Letters have no effect.
+        // Letters have no effect on the report.
         (
             ONE,
             "link 1 xarh\npacket 1 1500 20\nend 1\npacket 1 100 5 burst 4\nask 1 1 0\ndone\n",
