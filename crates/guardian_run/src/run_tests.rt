@@ -324,7 +324,10 @@ fn two_workers_meet(rt: HostRuntime) -> Result<(), Fail> {
     };
     let disk = MemoryDisk::new(alloc, Vec::new(alloc))?;
     let (status, written, _) = told_at(&rt, alloc, "run", joined(alloc, HOSTS, "")?, disk, &gate)?;
-    assert_eq!(rt; (status, written.as_slice()), (Status::Ok, answer.as_bytes()));
+    assert_eq!(rt;
+        (status, written.as_slice()),
+        (Status::Ok, answer.as_bytes())
+    );
     // Two frames of 10 bytes and a column of 26.
     assert_eq!(rt; gate.came.load(Ordering::SeqCst), 2);
     assert_eq!(rt; gate.bytes.load(Ordering::SeqCst), 72);
