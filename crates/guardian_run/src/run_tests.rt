@@ -3,11 +3,10 @@
 use crate::read_tests::{FOUR_FILE, ONE_FILE, ONE_REST};
 use crate::tests::{FOUR, ONE, joined};
 use crate::{Status, guardian};
-use lg_base::{Gate, MemorySink, MemorySource, OpenGate};
+use lg_base::{MemorySink, MemorySource, OpenGate};
 use lg_disk::{Choice, MemoryDisk};
 use std::alloc::Global;
 use std::sync::Wait;
-use std::sync::atomic::{AtomicU64, Ordering};
 use std::test::Fail;
 use std::thread::Threads;
 
@@ -50,22 +49,10 @@ fn told<R: Threads + Wait + Sync>(
     text: Vec<u8>,
     disk: MemoryDisk,
 ) -> Result<(Status, Vec<u8>, MemoryDisk), Fail> {
-    told_at(rt, alloc, word, text, disk, &OpenGate)
-}
-
-// The same, at a gate.
-fn told_at<R: Threads + Wait + Sync, G: Gate>(
-    rt: &R,
-    alloc: Global,
-    word: &str,
-    text: Vec<u8>,
-    disk: MemoryDisk,
-    gate: &G,
-) -> Result<(Status, Vec<u8>, MemoryDisk), Fail> {
     let words = [String::from_str(alloc, word)?];
     let mut source = MemorySource::new(text, 4096, Vec::new(alloc));
     let mut sink = MemorySink::new(alloc, 4096, Vec::new(alloc));
-    let (status, disk) = guardian(alloc, rt, &words, &mut source, &mut sink, disk, gate);
+    let (status, disk) = guardian(alloc, rt, &words, &mut source, &mut sink, disk, &OpenGate);
     Ok((status, sink.bytes().to_vec(alloc)?, disk))
 }
 
@@ -287,49 +274,5 @@ fn a_conflict_of_two_hosts(rt: HostRuntime) -> Result<(), Fail> {
         );
         assert_eq!(rt; disk.bytes(), ONE_FILE);
     }
-    Ok(())
-}
-
-// A gate where each frame waits until as many as that have come.
-#[derive(Drop)]
-struct Meeting<'a, R: Wait> {
-    rt: &'a R,
-    came: AtomicU64,
-    wanted: u64,
-    bytes: AtomicU64,
-}
-
-impl<R: Wait + Sync> Gate for Meeting<'_, R> {
-    fn pass(&self, _host: u16, _seq: u32, frame: &[u8]) {
-        self.bytes.fetch_add(frame.len() as u64, Ordering::SeqCst);
-        self.came.fetch_add(1, Ordering::SeqCst);
-        for _ in self.rt.forever() {
-            if self.came.load(Ordering::SeqCst) >= self.wanted {
-                break;
-            }
-        }
-    }
-}
-
-// The workers of two hosts meet at the gate: neither goes on before the other has come with its frame.
-#[test]
-fn two_workers_meet(rt: HostRuntime) -> Result<(), Fail> {
-    let alloc = rt.alloc();
-    let answer = "flow 1 switch 1 epoch 0 rows 2 of 2 bytes 100 delay 10\ncolumns 2\n";
-    let gate = Meeting {
-        rt: &rt,
-        came: AtomicU64::new(0),
-        wanted: 2,
-        bytes: AtomicU64::new(0),
-    };
-    let disk = MemoryDisk::new(alloc, Vec::new(alloc))?;
-    let (status, written, _) = told_at(&rt, alloc, "run", joined(alloc, HOSTS, "")?, disk, &gate)?;
-    assert_eq!(rt;
-        (status, written.as_slice()),
-        (Status::Ok, answer.as_bytes())
-    );
-    // Two frames of 10 bytes and a column of 26.
-    assert_eq!(rt; gate.came.load(Ordering::SeqCst), 2);
-    assert_eq!(rt; gate.bytes.load(Ordering::SeqCst), 72);
     Ok(())
 }
