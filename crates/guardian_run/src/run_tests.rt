@@ -250,29 +250,29 @@ fn all_hosts_at_once(rt: HostRuntime) -> Result<(), Fail> {
     Ok(())
 }
 
-// Both hosts bring a column that is in conflict with the book: whichever comes first, the fault told is the first host's.
+// The same two hosts with a dearer first packet.
+const DEARER_HOSTS: &str = "guardian 1\nshape 2 2 ports\npick turns\nhost 1\nhost 2\nswitch 1\n\
+    flow 1 10.0.0.1 10.0.0.2 6 2 1 host 1 path 1\nflow 2 10.0.0.1 10.0.0.2 6 2 2 host 2 path 1\n\
+    packet 1 200 10\nend 1\npacket 1 10 1\npacket 2 10 1\nask 1 1 0\ndone\n";
+
+// Each host brings a column that is in conflict with the book: whichever comes first, the first host's is told.
 #[test]
 fn a_conflict_of_two_hosts(rt: HostRuntime) -> Result<(), Fail> {
     let alloc = rt.alloc();
-    let text = "guardian 1\nshape 2 1 ports\npick turns\nhost 1\nhost 2\nswitch 1\n\
-        flow 1 10.0.0.1 10.0.0.2 6 2 1 host 1 path 1\nflow 2 10.0.0.1 10.0.0.2 6 2 1 host 2 path 1\n\
-        packet 1 1600 20\nend 1\npacket 1 100 5\npacket 2 100 5\nask 1 1 0\ndone\n";
     let differs =
-        "guardian: conflict at switch 1 epoch 0 column 0 kept 1500 20 1500 20 came 1600 20 1600 20\n";
+        "guardian: conflict at switch 1 epoch 0 column 0 kept 200 10 0 0 came 100 10 0 0\n";
+    let disk = MemoryDisk::new(alloc, Vec::new(alloc))?;
+    let (status, _, disk) = told(&rt, alloc, "run", joined(alloc, DEARER_HOSTS, "")?, disk)?;
+    assert_eq!(rt; status, Status::Ok);
+    let book = disk.bytes().to_vec(alloc)?;
     for _ in 0..8 {
-        let disk = MemoryDisk::new(alloc, ONE_FILE.to_vec(alloc)?)?;
-        let (status, written, disk) = told(
-            &rt,
-            alloc,
-            "run",
-            text.as_bytes().to_vec(alloc)?,
-            disk,
-        )?;
+        let disk = MemoryDisk::new(alloc, book.as_slice().to_vec(alloc)?)?;
+        let (status, written, disk) = told(&rt, alloc, "run", joined(alloc, HOSTS, "")?, disk)?;
         assert_eq!(rt;
             (status, written.as_slice()),
             (Status::Conflict, differs.as_bytes())
         );
-        assert_eq!(rt; disk.bytes(), ONE_FILE);
+        assert_eq!(rt; disk.bytes(), book.as_slice());
     }
     Ok(())
 }
