@@ -21,6 +21,7 @@ use Rattle.book_journal.specs.declared.applied.ApplyFault.TheVariants as apply
 use Rattle.column_book.specs.declared.fault.BookFault.{BookFault}
 use Rattle.column_book.specs.declared.fault.BookFault.TheVariants as book
 use Rattle.column_book.specs.Applying.{decide}
+use Rattle.book_journal.specs.Applied.{fault_of}
 use Rattle.book_journal.specs.Runs.{with_fault}
 use Rattle.lock_rule.specs.declared.view.Joined.{Joined}
 use Rattle.lock_rule.specs.declared.view.Mark.TheVariants.{Clear, Carries}
@@ -44,7 +45,7 @@ use Rattle.upload_world.specs.Pumps.{Has, StandsIn, IsOfCall, IsFirstRefused, St
 use Rattle.run_laws.specs.Booking.{uploads_of}
 use Rattle.scenario_parts.specs.Whole.{IsWhole}
 use Rattle.book_laws.specs.Legal.{IsLegalNext, AreLegalNext, IsLegal, host_at, uploads_at, upload_at, order_at}
-use Rattle.book_laws.specs.Keeping.{IsHeld, AllHeld, HasKeysOnce, IsJoined, IsCaused, AreAcked, IsAnswered}
+use Rattle.book_laws.specs.Keeping.{IsHeld, AllHeld, HasKeysOnce, IsJoined, IsCaused, AreAcked, IsAnswered, IsRefusedAt}
 use Rattle.book_laws.specs.Workers.{Worker, IsWork, AreJoined, acks_of, AllDone, IsExplained}
 use Rattle.book_laws.specs.Laws.{LawOfWorkers}
 use Rattle.book_laws.proofs.Lists.{all_flat, get_right}
@@ -239,6 +240,20 @@ module _ (w : Scenario) (first entries : List Entry) (fault : Option Entry) (v :
 
   -- ---- what is acknowledged
 
+  -- all uploads of a worker that ended well
+  all_acked : (h q : ℕ) → h < length ps → IsOk (worker h).result → q < length (uploads_at w h) → acked_at (worker h).states q ≡ true
+  all_acked h q low ok sent =
+      let did = on_ok (worker h).result _ ok (mine h low).pumps.done in
+      let size = (mine h low).paired in
+      AllPass-from_list_all is_acknowledged (worker h).states did.0 q state.Refused (omega (arith, sent, size))
+
+  acks_at : (h q : ℕ) → h < length ps → acks_of ps h q ≡ acked_at (worker h).states q
+  acks_at h q low = ap (λ (ss : List SeqState). acked_at ss q) (get_or-map States ps h idle [] low)
+
+  fine : (h q : ℕ) (d : Worker) → h < length ps → IsOk (slice_index_or ps h d).result → q < length (uploads_at w h) → acks_of ps h q ≡ true
+  fine h q d low ok sent =
+      acks_at h q low ∙ all_acked h q low (subst (λ (p : Worker). IsOk p.result) (sym (get_or_default ps h idle d low)) ok) sent
+
   -- an upload that stands in what a pass had seen is kept, where no key stands twice
   module _ (once : HasKeysOnce (records first)) where
     keys_once : HasKeysOnce (records entries)
@@ -254,9 +269,6 @@ module _ (w : Scenario) (first entries : List Entry) (fault : Option Entry) (v :
         All (IsHeld (content entries)) (upload_at w h q).columns
     acked_kept h q low sent is = kept h low (upload_at w h q)
         ((mine h low).pumps.acked (λ k short yes_. absurd (true≢false (sym yes_ ∙ none_acked (length (uploads_at w h)) k))) q sent is)
-
-    acks_at : (h q : ℕ) → h < length ps → acks_of ps h q ≡ acked_at (worker h).states q
-    acks_at h q low = ap (λ (ss : List SeqState). acked_at ss q) (get_or-map States ps h idle [] low)
 
     answered : (i : ℕ) (r : UploadData) → length (records first) ≤ i → slice_get (records entries) i ≡ Some r → IsAnswered w (acks_of ps) r
     answered i r far h =
@@ -289,13 +301,7 @@ module _ (w : Scenario) (first entries : List Entry) (fault : Option Entry) (v :
         let s = sent_at w p below in
         let declared = s.declared in
         let low : s.at < length ps = omega (arith, declared, many) in
-        subst (λ (u : UploadData). All (IsHeld (content entries)) u.columns) (sym s.is) (acked_kept s.at s.seq low s.sent (all_acked s.at s.seq low s.sent)))))
-      where
-        all_acked : (h q : ℕ) → h < length ps → q < length (uploads_at w h) → acked_at (worker h).states q ≡ true
-        all_acked h q low sent =
-            let did = on_ok (worker h).result _ (ok h idle low) (mine h low).pumps.done in
-            let size = (mine h low).paired in
-            AllPass-from_list_all is_acknowledged (worker h).states did.0 q state.Refused (omega (arith, sent, size))
+        subst (λ (u : UploadData). All (IsHeld (content entries)) u.columns) (sym s.is) (acked_kept s.at s.seq low s.sent (all_acked s.at s.seq low (ok s.at idle low) s.sent)))))
 
     done : AllDone ps → AllHeld w (records entries) × IsJoined w (records first) (records entries)
     done ok = (all_held ok, (growing.law delivered w (records first) (records entries) entries_legal).joined (all_held ok))
@@ -315,14 +321,35 @@ module _ (w : Scenario) (first entries : List Entry) (fault : Option Entry) (v :
   broken : (h : ℕ) → h < length ps → Marked (worker h).view.mark → (e : Entry) × (fault ≡ Some e)
   broken h low marked = (over h low).broken marked
 
+  -- the list that a worker's pass had seen
+  seen_legal : (h : ℕ) → h < length ps → IsLegal delivered w (records first) (records (worker h).view.seen)
+  seen_legal h low =
+      growing.legal_between delivered w (records first) (records (worker h).view.seen) (records entries) entries_legal
+      (records_front first (worker h).view.seen (over h low).from) (records_front (worker h).view.seen entries (over h low).begins)
+
+  -- where a worker's pump stopped
+  record StoppedAt (h q : ℕ) (why : ApplyFault) : Type 0 where
+    sent : q < length (uploads_at w h)
+    cause : IsCause w.shape ROOM (uploads_at w h) q (new_pass (h + 2) doing.Idle first 0) (worker h).view why
+
+  stopped_at : (h q : ℕ) (d : Worker) (why : ApplyFault) → h < length ps → (slice_index_or ps h d).result ≡ Err (Refused q why) → StoppedAt h q why
+  stopped_at h q d why low is =
+      let ended : (worker h).result ≡ Err (Refused q why) = ap (λ (p : Worker). p.result) (get_or_default ps h idle d low) ∙ is in
+      let stopped : IsFirstRefused w.shape ROOM (uploads_at w h) (order_at delivered w h) (new_pass (h + 2) doing.Idle first 0) (worker h).view q why =
+      subst (λ (r : Result (Unit {0}) WorkFault).
+      Stops w.shape ROOM (uploads_at w h) (order_at delivered w h) (new_pass (h + 2) doing.Idle first 0) (worker h).view (worker h).states r)
+      ended (mine h low).pumps.stops in
+      let inside : Contains (order_at delivered w h) q =
+      subst (λ (ds : List ℕ). Contains ds q) (sym stopped.place) (Contains-append_right stopped.earlier (q ∷ stopped.later) q (0, omega arith, refl)) in
+      record {
+        sent = All-contains (λ n. n < length (uploads_at w h)) (order_at delivered w h) q (brought_low (length (uploads_at w h)) (host_at w h).letters) inside;
+        cause = stopped.cause;
+      }
+
   module _ (whole : IsWhole w) (once : HasKeysOnce (records first)) (h : ℕ) (low : h < length ps) (q : ℕ) (sent : q < length (uploads_at w h)) where
-    -- by the list that the worker's pass had seen
     seen_caused : (why : BookFault) → decide w.shape ROOM (records (worker h).view.seen) (upload_at w h q) ≡ Err why → IsCaused w (records first) why
     seen_caused why is =
-        refusals.law delivered w (records first) (records (worker h).view.seen) whole once
-        (growing.legal_between delivered w (records first) (records (worker h).view.seen) (records entries) entries_legal
-        (records_front first (worker h).view.seen (over h low).from) (records_front (worker h).view.seen entries (over h low).begins))
-        h q why (host h low) sent is
+        refusals.law delivered w (records first) (records (worker h).view.seen) whole once (seen_legal h low) h q why (host h low) sent is
 
     explained : (why : ApplyFault) → IsCause w.shape ROOM (uploads_at w h) q (new_pass (h + 2) doing.Idle first 0) (worker h).view why →
         IsExplained w (records first) fault why
@@ -336,16 +363,23 @@ module _ (w : Scenario) (first entries : List Entry) (fault : Option Entry) (v :
   refused : IsWhole w → HasKeysOnce (records first) → (h : ℕ) (d : Worker) (q : ℕ) (why : ApplyFault) → h < length ps →
       (slice_index_or ps h d).result ≡ Err (Refused q why) → IsExplained w (records first) fault why
   refused whole once h d q why low is =
-      let ended : (worker h).result ≡ Err (Refused q why) = ap (λ (p : Worker). p.result) (get_or_default ps h idle d low) ∙ is in
-      let stopped : IsFirstRefused w.shape ROOM (uploads_at w h) (order_at delivered w h) (new_pass (h + 2) doing.Idle first 0) (worker h).view q why =
-      subst (λ (r : Result (Unit {0}) WorkFault).
-      Stops w.shape ROOM (uploads_at w h) (order_at delivered w h) (new_pass (h + 2) doing.Idle first 0) (worker h).view (worker h).states r)
-      ended (mine h low).pumps.stops in
-      let inside : Contains (order_at delivered w h) q =
-      subst (λ (ds : List ℕ). Contains ds q) (sym stopped.place) (Contains-append_right stopped.earlier (q ∷ stopped.later) q (0, omega arith, refl)) in
-      let sent : q < length (uploads_at w h) =
-      All-contains (λ n. n < length (uploads_at w h)) (order_at delivered w h) q (brought_low (length (uploads_at w h)) (host_at w h).letters) inside in
-      explained whole once h low q sent why stopped.cause
+      let stopped = stopped_at h q d why low is in
+      explained whole once h low q stopped.sent why stopped.cause
+
+  refusal : (h q : ℕ) (d : Worker) (why : BookFault) → h < length ps →
+      (slice_index_or ps h d).result ≡ Err (Refused q (fault_of why)) → IsRefusedAt delivered w (records first) h q why
+  refusal h q d why low is = let stopped = stopped_at h q d (fault_of why) low is in record {
+    sent = stopped.sent;
+    list = records (worker h).view.seen;
+    legal = seen_legal h low;
+    says = by why stopped.cause;
+  }
+    where
+      by : (f : BookFault) → IsCause w.shape ROOM (uploads_at w h) q (new_pass (h + 2) doing.Idle first 0) (worker h).view (fault_of f) →
+          decide w.shape ROOM (records (worker h).view.seen) (upload_at w h q) ≡ Err f
+      by (book.WrongShape kept came) cause = cause
+      by (book.Conflict key kept came) cause = cause
+      by (book.Full held more) cause = cause
 
   -- ---- where all that is brought was found
 
@@ -382,5 +416,7 @@ law w first entries fault v ps once many closes joined each = record {
   done = done w first entries fault v ps many closes joined each once;
   sound = sound w first entries fault v ps many closes joined each;
   refused = λ whole. refused w first entries fault v ps many closes joined each whole once;
+  fine = fine w first entries fault v ps many closes joined each;
+  refusal = refusal w first entries fault v ps many closes joined each;
   repeats = repeats w first entries fault v ps many closes joined each;
 }

@@ -1,5 +1,5 @@
 -- What a run keeps of the uploads, and why it refuses one.
-use Rattle.std.specs.Prelude.{◌≡◌, ◌≢◌, ℕ, ◌<◌, ◌≤◌, ◌+◌, List, length, All, Contains, Bool, true, Some}
+use Rattle.std.specs.Prelude.{◌≡◌, ◌≢◌, ℕ, ◌<◌, ◌≤◌, ◌+◌, List, length, All, Contains, Bool, true, Some, Err}
 use Rattle.std.specs.List.{slice_get, IsDistinct}
 use Rattle.lg_model.specs.declared.scenario.Letter.{Letter}
 use Rattle.lg_model.specs.declared.scenario.Letter.TheVariants.{LoseReply}
@@ -15,9 +15,10 @@ use Rattle.column_book.specs.declared.book.TheConstants.{ROOM}
 use Rattle.column_book.specs.declared.fault.BookFault.{BookFault}
 use Rattle.column_book.specs.declared.fault.BookFault.TheVariants.{WrongShape, Conflict, Full}
 use Rattle.column_book.specs.Entries.{columns_in, content_in}
+use Rattle.column_book.specs.Applying.{decide}
 use Rattle.column_book.specs.Kept.{keys_of}
 use Rattle.run_laws.specs.Truth.{book_of}
-use Rattle.book_laws.specs.Legal.{host_at, uploads_at, upload_at}
+use Rattle.book_laws.specs.Legal.{Order, IsLegal, host_at, uploads_at, upload_at}
 
 -- ---- what is in a list
 
@@ -82,3 +83,20 @@ pub record AreAcked (w : Scenario) (before kept : List UploadData) (acked : Acks
   pub held : (h q : ℕ) → h < length w.hosts → q < length (uploads_at w h) → acked h q ≡ true
       → All (IsHeld (content_in kept)) (upload_at w h q).columns
   pub answered : (i : ℕ) (r : UploadData) → length before ≤ i → slice_get kept i ≡ Some r → IsAnswered w acked r
+
+-- ---- whose refusal is told
+
+-- A list that the run may come to refuses the upload of number q of the host at position h, with that fault.
+pub record IsRefusedAt (order : Order) (w : Scenario) (before : List UploadData) (h q : ℕ) (fault : BookFault) : Type 0 where
+  pub sent : q < length (uploads_at w h)
+  pub list : List UploadData
+  pub legal : IsLegal order w before list
+  pub says : decide w.shape ROOM list (upload_at w h q) ≡ Err fault
+
+-- It is that of the first host whose work stopped: all uploads of each host before it are acknowledged.
+pub record IsFirstRefusal (order : Order) (w : Scenario) (before : List UploadData) (acked : Acks) (fault : BookFault) : Type 0 where
+  pub host : ℕ
+  pub number : ℕ
+  pub declared : host < length w.hosts
+  pub earlier : (h q : ℕ) → h < host → q < length (uploads_at w h) → acked h q ≡ true
+  pub refused : IsRefusedAt order w before host number fault

@@ -1,5 +1,5 @@
 -- The laws of a run over a book.
-use Rattle.std.specs.Prelude.{◌≡◌, ℕ, ◌<◌, List, length, drop, All, Contains, Option, None, Err, slice_index_or}
+use Rattle.std.specs.Prelude.{◌≡◌, ℕ, ◌<◌, true, List, length, drop, All, Contains, Option, None, Err, IsOk, slice_index_or}
 use mathlib.Core.List.{IsPrefix}
 use Rattle.lg_model.specs.Placing.{Shape}
 use Rattle.lg_model.specs.Scenario.{Scenario}
@@ -15,6 +15,7 @@ use Rattle.column_book.specs.Applying.{decide}
 use Rattle.book_file.specs.Between.{Files}
 use Rattle.book_file.specs.File.{StandsFor}
 use Rattle.book_journal.specs.declared.applied.ApplyFault.{ApplyFault}
+use Rattle.book_journal.specs.Applied.{fault_of}
 use Rattle.book_journal.specs.Runs.{with_fault}
 use Rattle.lock_rule.specs.declared.view.View.{View}
 use Rattle.lock_rule.specs.Closing.{Closes}
@@ -23,7 +24,7 @@ use Rattle.upload_world.specs.declared.fault.WorkFault.TheVariants.{Refused}
 use Rattle.scenario_parts.specs.Whole.{IsWhole}
 use Rattle.book_laws.specs.Legal.{Order, IsLegal, uploads_at, upload_at}
 use Rattle.book_laws.specs.Leaving.{IsLeft, IsLeftByFiles}
-use Rattle.book_laws.specs.Keeping.{IsHeld, AllHeld, HasKeysOnce, IsJoined, IsCaused, AreAcked}
+use Rattle.book_laws.specs.Keeping.{IsHeld, AllHeld, HasKeysOnce, IsJoined, IsCaused, AreAcked, IsRefusedAt}
 use Rattle.book_laws.specs.Truth.{IsTrueFrom}
 use Rattle.book_laws.specs.Workers.{Worker, IsWork, AreJoined, acks_of, AllDone, IsExplained}
 
@@ -75,8 +76,9 @@ LawOfFilesLeft was now since = (order : Order) (w : Scenario) (before kept full 
 -- What holds once all workers are done and the book is closed; where its journal is broken, one record more may be on
 -- the disk. The list is legal, and stays so with that record. All columns of an acknowledged upload are kept; and of a
 -- host whose link drops no reply, each upload of which a record was added is acknowledged. Where every worker came to
--- its end, all that is brought is there, and the journal isn't broken. Where the book refused an upload, there is a
--- cause for it. And where all that is brought was found, nothing is added.
+-- its end, all that is brought is there, and the journal isn't broken; and where one did, all its own uploads are
+-- acknowledged. Where the book refused an upload, there is a cause for it, and some legal list refuses it. And where all
+-- that is brought was found, nothing is added.
 pub record HasWorked (w : Scenario) (first entries : List Entry) (fault : Option Entry) (ps : List Worker) : Type 0 where
   pub begins : IsPrefix first entries
   pub legal : IsLegal delivered w (records first) (records (with_fault entries fault))
@@ -85,6 +87,10 @@ pub record HasWorked (w : Scenario) (first entries : List Entry) (fault : Option
   pub sound : AllDone ps → fault ≡ None
   pub refused : IsWhole w → (h : ℕ) (d : Worker) (q : ℕ) (why : ApplyFault) → h < length ps
       → (slice_index_or ps h d).result ≡ Err (Refused q why) → IsExplained w (records first) fault why
+  pub fine : (h q : ℕ) (d : Worker) → h < length ps → IsOk (slice_index_or ps h d).result → q < length (uploads_at w h)
+      → acks_of ps h q ≡ true
+  pub refusal : (h q : ℕ) (d : Worker) (why : BookFault) → h < length ps
+      → (slice_index_or ps h d).result ≡ Err (Refused q (fault_of why)) → IsRefusedAt delivered w (records first) h q why
   pub repeats : AllHeld w (records first) → (entries ≡ first) × (fault ≡ None)
 
 -- It holds however the workers ran, where each did what a pump promises with the pass of its host.

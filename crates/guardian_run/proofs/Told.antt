@@ -1,21 +1,25 @@
 -- What the uploads of a run made of the journal, by what is told.
-use Rattle.std.specs.Prelude.{◌≡◌, ◌⊎◌, ℕ, zero, suc, ◌<◌, ◌≤◌, false, List, [], ◌∷◌, ◌++◌, length, map, All, Any, Option, None, Some, Bool, is_some, Result, Ok, Err, IsOk, IfOk, IfErr, slice_index_or, slice_get}
+use Rattle.std.specs.Prelude.{◌≡◌, ◌⊎◌, ℕ, zero, suc, ◌<◌, ◌≤◌, false, List, [], ◌∷◌, ◌++◌, length, map, take, All, Any, Option, None, Some, Bool, is_some, Result, Ok, Err, IsOk, IfOk, IfErr, slice_index_or, slice_get}
 use Rattle.std.specs.List.{flat_map}
 use Rattle.std.proofs.Common.{refl, sym, ap, ◌∙◌, subst, inl, inr, arith, true≢false}
-use Rattle.std.proofs.lemmas.List.{append-nil, length-map, get_or-map, map-append}
+use Rattle.std.proofs.lemmas.List.{append-nil, length-map, length-take-le, get_or-map, get_or-take, map-append}
 use mathlib.Core.List.{IsPrefix}
 use Rattle.lg_model.specs.Scenario.{Scenario}
 use Rattle.column_book.specs.declared.entry.Entry.{Entry}
+use Rattle.column_book.specs.declared.fault.BookFault.{BookFault}
+use Rattle.column_book.specs.declared.fault.BookFault.TheVariants as book
 use Rattle.column_book.specs.Entries.{records}
 use Rattle.scenario_parts.specs.Whole.{IsWhole}
 use Rattle.uploader_core.specs.declared.state.SeqState.{SeqState}
 use Rattle.book_journal.specs.declared.applied.ApplyFault.{ApplyFault}
 use Rattle.book_journal.specs.declared.applied.ApplyFault.TheVariants as faults
+use Rattle.book_journal.specs.Applied.{fault_of}
 use Rattle.book_journal.specs.Runs.{JournalState, IsRun, start_of, with_fault}
+use Rattle.link_deliveries.specs.Deliveries.{delivered}
 use Rattle.upload_world.specs.declared.fault.WorkFault.{WorkFault}
 use Rattle.upload_world.specs.declared.fault.WorkFault.TheVariants.{Refused}
 use Rattle.upload_world.specs.Pumps.{acked_at}
-use Rattle.book_laws.specs.Keeping.{AreAcked}
+use Rattle.book_laws.specs.Keeping.{AreAcked, IsFirstRefusal}
 use Rattle.book_laws.specs.Workers.{Worker, AllDone, IsExplained}
 use Rattle.shared_book.specs.Going.{GoesOn}
 use Rattle.host_workers.specs.declared.sender.Sender.{Sender}
@@ -68,15 +72,39 @@ module _ {D : Type 0} (w : Scenario) (old new : JournalState D) (ss : List Sende
       (sym (get_or-map told_by sent.workers h d e (omega (arith, low, as_many)))
       ∙ ap (λ (l : List (List SeqState × Result (Unit {0}) WorkFault)). slice_index_or l h e) sent.ended ∙ get_or-map outcome_of ss h s e low)
 
-  all_done : All IsFine ss → AllDone sent.workers
-  all_done fine = λ h d low.
-      let here : h < length ss = omega (arith, low, as_many) in
-      let s = some_item ss h here in
-      is_ok (slice_index_or sent.workers h d).result (result_is h d s here ∙ fine h s here)
+  ended_well : (h : ℕ) (d : Worker) (s : Sender) → h < length ss → IsFine (slice_index_or ss h s) → IsOk (slice_index_or sent.workers h d).result
+  ended_well h d s low fine = is_ok (slice_index_or sent.workers h d).result (result_is h d s low ∙ fine)
     where
       is_ok : (r : Result (Unit {0}) WorkFault) → r ≡ Ok tt → IsOk r
       is_ok (Ok x) is = refl
       is_ok (Err f) is = absurd (cc is)
+
+  all_done : All IsFine ss → AllDone sent.workers
+  all_done fine = λ h d low.
+      let here : h < length ss = omega (arith, low, as_many) in
+      let s = some_item ss h here in
+      ended_well h d s here (fine h s here)
+
+  -- the first fault that a sender met is the one of which the first refusal is told
+  first_refusal : (q : ℕ) (why : BookFault) → IsFirstMet (Refused q (fault_of why)) ss → IsFirstRefusal delivered w (records old.entries) (acks_by ss) why
+  first_refusal q why first =
+      let inside = first.inside in
+      let here : first.at < length sent.workers = omega (arith, inside, as_many) in
+      let hosts = sent.many in
+      let d = some_item sent.workers first.at here in record {
+        host = first.at;
+        number = q;
+        declared = omega (arith, inside, hosts);
+        earlier = λ h n low there.
+            let within : h < length ss = omega (arith, low, inside) in
+            let counted : h < length (take first.at ss) = let size = length-take-le first.at ss (omega (arith, inside)) in omega (arith, low, size) in
+            let fine : IsFine (slice_index_or ss h first.sender) =
+            subst IsFine (get_or-take first.at ss h first.sender low) (first.before h first.sender counted) in
+            ap (λ (l : List (List SeqState)). acked_at (slice_index_or l h []) n) (sym states_are)
+            ∙ sent.worked.fine h n d (omega (arith, within, as_many)) (ended_well h d first.sender within fine) there;
+        refused = sent.worked.refusal first.at q d why here
+            (result_is first.at d first.sender inside ∙ ap (λ (s : Sender). s.result) first.here ∙ first.met);
+      }
 
   explained : IsWhole w → (q : ℕ) (fault : ApplyFault) → Any (HasMet (Refused q fault)) ss → IsExplained w (records old.entries) new.fault fault
   explained fits q fault any =
@@ -132,6 +160,7 @@ module _ {D : Type 0} (w : Scenario) (old new : JournalState D) (ss : List Sende
           kept = c.2;
           came = c.3;
           clash = explained fits c.0 (faults.Conflict c.1 c.2 c.3) (any_first (Refused c.0 (faults.Conflict c.1 c.2 c.3)) ss c.4);
+          first = first_refusal c.0 (book.Conflict c.1 c.2 c.3) c.4;
           is = c.5 ∙ lines (conflict_line c.1 c.2 c.3);
         },
       )
@@ -145,6 +174,7 @@ module _ {D : Type 0} (w : Scenario) (old new : JournalState D) (ss : List Sende
           more = c.2;
           overfull = why.0;
           no_room = why.1;
+          first = first_refusal c.0 (book.Full c.1 c.2) c.3;
           is = c.4 ∙ lines (full_line c.1 c.2);
         },
       )

@@ -12,6 +12,7 @@ use Rattle.sketchlet_wire.specs.Uploads.{UploadData}
 use Rattle.scenario_parts.specs.Whole.{IsWhole}
 use Rattle.scenario_text.specs.Text.{Fault, reading}
 use Rattle.column_book.specs.declared.book.TheConstants.{ROOM}
+use Rattle.column_book.specs.declared.fault.BookFault.TheVariants.{Conflict, Full}
 use Rattle.column_book.specs.Entries.{content_in}
 use Rattle.book_file.specs.File.{IsBlank, StandsFor}
 use Rattle.book_file.specs.Found.{count_of}
@@ -21,7 +22,7 @@ use Rattle.run_laws.specs.Truth.{book_of}
 use Rattle.link_deliveries.specs.Deliveries.{delivered}
 use Rattle.book_laws.specs.Legal.{uploads_at}
 use Rattle.book_laws.specs.Leaving.{IsLeft, IsLeftByFiles}
-use Rattle.book_laws.specs.Keeping.{Acks, AllHeld, AreAcked, IsJoined, IsClash, IsOverfull}
+use Rattle.book_laws.specs.Keeping.{Acks, AllHeld, AreAcked, IsJoined, IsClash, IsOverfull, IsFirstRefusal}
 use Rattle.book_laws.specs.Truth.{IsTrueFrom}
 use Rattle.report_text.specs.Columns.{acked_line}
 use Rattle.report_text.specs.Faults.{read_fault_line, disk_fault_line, no_memory_line, scenario_line, full_line}
@@ -48,21 +49,24 @@ acked_of w acked (h, host) =
 abbrev pub acked_lines : Scenario → Acks → List ℕ
 acked_lines w acked = flat_map (acked_of w acked) (enumerate_from 0 w.hosts)
 
--- A brought column has other counters than the column of its key that was found; and the lines that tell it.
+-- A brought column has other counters than the column of its key that was found; and the lines that tell it. Of several
+-- such columns it is one of the first host whose work stopped.
 pub record TellsClash (w : Scenario) (before : List UploadData) (acked : Acks) (text : List ℕ) : Type 0 where
   pub key : Key
   pub kept : Column
   pub came : Column
   pub clash : IsClash w before key kept came
+  pub first : IsFirstRefusal delivered w before acked (Conflict key kept came)
   pub is : text ≡ acked_lines w acked ++ conflict_line key kept came
 
 -- The keys that were found and those of the brought columns are together more than a book has room for; and the lines
--- that tell it.
+-- that tell it, with the counts of an upload of the first host whose work stopped.
 pub record TellsOverfull (w : Scenario) (before : List UploadData) (acked : Acks) (text : List ℕ) : Type 0 where
   pub held : ℕ
   pub more : ℕ
   pub overfull : IsOverfull w before
   pub no_room : ROOM < held + more
+  pub first : IsFirstRefusal delivered w before acked (Full held more)
   pub is : text ≡ acked_lines w acked ++ full_line held more
 
 -- What a run tells that was made from the list `before`, by its status, where a crash leaves `kept` or `full`. With

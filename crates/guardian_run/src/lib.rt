@@ -17,6 +17,8 @@ mod demo;
 #[cfg(test)]
 mod demo_tests;
 mod ending;
+#[cfg(test)]
+mod gate_tests;
 mod list;
 mod looking;
 mod make;

@@ -48,9 +48,10 @@ fn run_over<K: Sink, D: Disk + Send, G: Gate, R: Threads + Wait + Sync>(
 /// handed back at every end.
 ///
 /// `BadScenario` where the input is no scenario text; then the faults of the file in their order; then `DiskFault` where the
-/// disk failed, else `Conflict` or `Full` by the upload that was refused of the first host of which one was, each after the
-/// lines of the uploads that were acknowledged. `ReadFault`, `WriteFault` and `DiskFault` come only where that count of faults rose in this call
-/// or stands at its last value, `NoMemory` where no memory was found. What was booked before a refusal stays.
+/// disk failed, else `Conflict` or `Full` by the refused upload of the first host of which one was refused, each after the
+/// lines of the uploads that were acknowledged. `ReadFault`, `WriteFault` and `DiskFault` come only where that count of
+/// faults rose in this call or stands at its last value, `NoMemory` where no memory was found. What was booked before a
+/// refusal stays (docs/DEFINITIONS.md, Runs over a book).
 pub fn run<S: Source, K: Sink, D: Disk + Send, G: Gate, R: Threads + Wait + Sync>(
     alloc: Global,
     rt: &R,

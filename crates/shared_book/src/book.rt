@@ -6,6 +6,7 @@ ghost use Rattle.lock_rule.specs.Views.{most_calls, given, new_pass, parted};
 ghost use Rattle.shared_book.specs.Going.{GoesOn};
 ghost use Rattle.shared_book.specs.Passes.{Joins, Keeps, Serves};
 
+use crate::bells::Bells;
 use crate::pass::Pass;
 use crate::turns::{Part, Place, Turns, pass_on, serve, take_first, take_in};
 use atomic_table::{Badge, Table};
@@ -25,6 +26,7 @@ use std::sync::Wait;
 /// that was shared. It has to be closed.
 pub struct SharedBook<D: Disk> {
     table: Table<Option<Journal<D>>, View, Snapshot<Journal<D>>, Turns, Global>,
+    bells: Bells,
     shape: Shape,
 }
 
@@ -59,8 +61,9 @@ pub fn share<D: Disk>(
     let Ok((table, mut seat)) = Table::vacant(alloc, &[1, 0, records as u64, 0], 1, &about) else {
         return Err((Memory, journal));
     };
+    let bells = Bells::new();
     take_first::<D, Brand>(&table.shared, &mut seat);
-    pass_on(&table.shared, &mut seat, journal);
+    pass_on(&table.shared, &bells, &mut seat, journal);
     let pass = Pass {
         badge: seat.into_badge(),
         number: 1,
@@ -68,7 +71,12 @@ pub fn share<D: Disk>(
         joined: 0,
         left: u32::MAX,
     };
-    Ok((SharedBook { table, shape }, pass))
+    let book = SharedBook {
+        table,
+        bells,
+        shape,
+    };
+    Ok((book, pass))
 }
 
 impl<D: Disk> SharedBook<D> {
@@ -124,7 +132,8 @@ impl<D: Disk> SharedBook<D> {
         ensures serves { Serves self.now.first.shape self.now.first.room upload.now pass.old.view pass.new.view result }
     {
         let mut seat: Place<D> = mem::replace(&mut pass.badge, Badge::blank()).into_seat();
-        let answer = serve(rt, &self.table.shared, &mut seat, pass.number, upload);
+        let top = &self.table.shared;
+        let answer = serve(rt, top, &self.bells, &mut seat, pass.number, upload);
         pass.badge = seat.into_badge();
         pass.left -= 1;
         answer
@@ -157,7 +166,11 @@ impl<D: Disk> SharedBook<D> {
         ensures closes { Closes self.first.entries pass.view result.entries result.fault }
         ensures goes_on { GoesOn D.honest D.seen D.images D.moment D.since D.faults self.first result }
     {
-        let SharedBook { table, shape: _ } = self;
+        let SharedBook {
+            table,
+            bells: _,
+            shape: _,
+        } = self;
         let Pass { badge, .. } = pass;
         let seat: Place<D> = badge.into_seat();
         let mut closed = table.close_with(seat);

@@ -11,6 +11,7 @@
 #![tactic(auto)]
 
 mod answering;
+mod bells;
 mod book;
 mod laws;
 mod pass;

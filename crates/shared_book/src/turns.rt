@@ -12,6 +12,7 @@ ghost use Rattle.shared_book.specs.Going.{GoesOn, GoesFrom};
 ghost use Rattle.shared_book.specs.Passes.{Joins, Keeps, Serves, seen_after, mark_for};
 ghost use Rattle.shared_book.specs.Steps.{IsAt, IsSameSeat, StoredFew, Taken, after_turn, found_by, resting};
 
+use crate::bells::Bells;
 use atomic_table::{Join, Play, Seat, Shared, Split, TableRule};
 use book_journal::{Applied, ApplyFault, Journal};
 use lg_disk::Disk;
@@ -22,7 +23,7 @@ use std::snapshot::Snapshot;
 use std::sync::Wait;
 use std::thread;
 
-// A pass that looks this often without its turn having come goes to sleep.
+// A pass whose turn is near and has not come after so many looks goes to sleep.
 const LOOKS: u32 = 64;
 
 /// The rule of the table.
@@ -125,14 +126,25 @@ fn draw_ticket<D: Disk>(top: &Top<D>, seat: &mut Place<D>) -> u64
     top.fetch_add::<Draw>(seat, 0, 1)
 }
 
-// Lets other threads run before the next look; after some looks it sleeps until a turn is passed on.
-fn wait<D: Disk, R: Wait>(rt: &R, top: &Top<D>, serving: u64, looks: u32)
+// Lets other threads run before the next look, where the turn is near; else, and after some looks, it sleeps until the
+// bell of the ticket rings.
+fn wait<D: Disk, R: Wait>(
+    rt: &R,
+    top: &Top<D>,
+    bells: &Bells,
+    ticket: u64,
+    serving: u64,
+    looks: u32,
+)
     requires words { top.now.table_id.words ≡ 4 }
 {
-    if looks < LOOKS {
+    if looks < LOOKS && Bells::is_near(ticket, serving) {
         thread::yield_now();
-    } else {
-        top.park(rt, 1, (serving % 4_294_967_296) as u32);
+        return;
+    }
+    bells.lie_down(ticket);
+    if top.peek(1) == serving {
+        bells.sleep(rt, ticket);
     }
 }
 
@@ -140,6 +152,7 @@ fn wait<D: Disk, R: Wait>(rt: &R, top: &Top<D>, serving: u64, looks: u32)
 fn take<D: Disk, O: Origin<Journal<D>>, R: Wait>(
     rt: &R,
     top: &Top<D>,
+    bells: &Bells,
     seat: &mut Place<D>,
     ticket: u64,
 ) -> Option<Journal<D>>
@@ -158,7 +171,7 @@ fn take<D: Disk, O: Origin<Journal<D>>, R: Wait>(
         if serving == ticket {
             return top.exchange(seat, 0, None);
         }
-        wait(rt, top, serving, looks);
+        wait(rt, top, bells, ticket, serving, looks);
         looks = looks.saturating_add(1);
     }
     unreachable!()
@@ -191,7 +204,12 @@ fn give_back<D: Disk>(top: &Top<D>, seat: &mut Place<D>, journal: Journal<D>)
 }
 
 // Gives the journal back and passes the turn on.
-pub(crate) fn pass_on<D: Disk>(top: &Top<D>, seat: &mut Place<D>, journal: Journal<D>)
+pub(crate) fn pass_on<D: Disk>(
+    top: &Top<D>,
+    bells: &Bells,
+    seat: &mut Place<D>,
+    journal: Journal<D>,
+)
     requires table { IsAt seat.old top.now.table_id }
     requires live { seat.old.me.0.live ≡ true }
     requires turn { (t : ℕ) × (seat.old.me.0.doing ≡ Has t journal.entries journal.fault) }
@@ -201,12 +219,12 @@ pub(crate) fn pass_on<D: Disk>(top: &Top<D>, seat: &mut Place<D>, journal: Journ
     ensures passed { seat.new.me ≡ (resting seat.old.me.0 journal.entries seat.old.me.0.mark, []) }
 {
     give_back(top, seat, journal);
-    top.fetch_add::<PassOn>(seat, 1, 1);
-    top.wake_all(1);
+    let served = top.fetch_add::<PassOn>(seat, 1, 1);
+    bells.ring_for(served.wrapping_add(1));
 }
 
 // The same after an upload was stored: the entry is committed first.
-fn pass_on_stored<D: Disk>(top: &Top<D>, seat: &mut Place<D>, journal: Journal<D>)
+fn pass_on_stored<D: Disk>(top: &Top<D>, bells: &Bells, seat: &mut Place<D>, journal: Journal<D>)
     requires table { IsAt seat.old top.now.table_id }
     requires live { seat.old.me.0.live ≡ true }
     requires stored { (t : ℕ) × (l : List Entry) × (e : Entry) × (seat.old.me.0.doing ≡ Has t l None)
@@ -219,12 +237,12 @@ fn pass_on_stored<D: Disk>(top: &Top<D>, seat: &mut Place<D>, journal: Journal<D
 {
     give_back(top, seat, journal);
     top.fetch_add::<Commit>(seat, 2, 1);
-    top.fetch_add::<PassOn>(seat, 1, 1);
-    top.wake_all(1);
+    let served = top.fetch_add::<PassOn>(seat, 1, 1);
+    bells.ring_for(served.wrapping_add(1));
 }
 
 // The same with a broken journal: the pass is marked first.
-fn pass_on_broken<D: Disk>(top: &Top<D>, seat: &mut Place<D>, journal: Journal<D>)
+fn pass_on_broken<D: Disk>(top: &Top<D>, bells: &Bells, seat: &mut Place<D>, journal: Journal<D>)
     requires table { IsAt seat.old top.now.table_id }
     requires live { seat.old.me.0.live ≡ true }
     requires broken { (t : ℕ) × (f : Option Entry) × (e : Entry) × (seat.old.me.0.doing ≡ Has t journal.entries f)
@@ -240,13 +258,14 @@ fn pass_on_broken<D: Disk>(top: &Top<D>, seat: &mut Place<D>, journal: Journal<D
 {
     give_back(top, seat, journal);
     top.swap::<Break>(seat, 3, 1);
-    top.fetch_add::<PassOn>(seat, 1, 1);
-    top.wake_all(1);
+    let served = top.fetch_add::<PassOn>(seat, 1, 1);
+    bells.ring_for(served.wrapping_add(1));
 }
 
 // Ends a turn in which an upload had this answer.
 fn end_turn<D: Disk>(
     top: &Top<D>,
+    bells: &Bells,
     seat: &mut Place<D>,
     journal: Journal<D>,
     answer: &Result<Applied, ApplyFault>,
@@ -263,11 +282,11 @@ fn end_turn<D: Disk>(
     ensures ended { seat.new.me ≡ (after_turn upload.now seat.old.me.0 answer.now, []) }
 {
     match answer {
-        Ok(Applied::Stored(_)) => pass_on_stored(top, seat, journal),
+        Ok(Applied::Stored(_)) => pass_on_stored(top, bells, seat, journal),
         Err(ApplyFault::DiskFault | ApplyFault::Broken { .. }) => {
-            pass_on_broken(top, seat, journal)
+            pass_on_broken(top, bells, seat, journal)
         }
-        _ => pass_on(top, seat, journal),
+        _ => pass_on(top, bells, seat, journal),
     }
 }
 
@@ -275,6 +294,7 @@ fn end_turn<D: Disk>(
 pub(crate) fn serve<D: Disk, R: Wait>(
     rt: &R,
     top: &Top<D>,
+    bells: &Bells,
     seat: &mut Place<D>,
     number: u32,
     upload: &Upload,
@@ -292,11 +312,11 @@ pub(crate) fn serve<D: Disk, R: Wait>(
         seat.old.me.0 seat.new.me.0 result }
 {
     let ticket = draw_ticket(top, seat);
-    let Some(mut journal) = take::<D, Brand, R>(rt, top, seat, ticket) else {
+    let Some(mut journal) = take::<D, Brand, R>(rt, top, bells, seat, ticket) else {
         unreachable!()
     };
     let answer = journal.apply(number, upload);
-    end_turn(top, seat, journal, &answer, upload);
+    end_turn(top, bells, seat, journal, &answer, upload);
     answer
 }
 
