@@ -49,7 +49,7 @@ inside_sync D g s =
       table.the_sync (Option.the_row (journal_row D g)) View.the_row (Snapshot.the_row (journal_row D g)) Turns.the_row (rule.ghosts D g rule.no_dict) slot,
       (search sendable depth 20, (search sendable depth 20, (lease.the_sync u64 Global.the_row heap.ghosts heap_send heap_frees, (lease.the_sync (Option.the_row (journal_row D g)) Global.the_row heap.ghosts heap_send heap_frees, (search (sendable, crosses) depth 20, tt))))),
     ) in
-    let all : AllSync (declared.fields (inside.the_type D g)) = (struct_sync (declared.shape (table_type D g)) parts, (search sendable depth 30, tt)) in
+    let all : AllSync (declared.fields (inside.the_type D g)) = (struct_sync (declared.shape (table_type D g)) parts, (search (sendable, crosses) depth 30, (search sendable depth 30, tt))) in
     let T = inside.the_type D g in recorded_sync (Struct (declared.shape T)) T.D T.to T.to_one (struct_sync (declared.shape T) all)
 
 pub shared_sync : (D : RattleType) (g : Ghosts D.Denot) → IsSend D → IsSync (shared_row D g)

@@ -4,8 +4,8 @@ use Rattle.lock_rule.proofs.Turning.{passes}
 use Rattle.shared_book.specs.Going.{GoesOn}
 use Rattle.shared_book.proofs.turns.pass_on.Goals as goal
 
-pub fetch_add-requires : goal.fetch_add-requires
-fetch_add-requires g c =
+pub fetch_add-served-requires : goal.fetch_add-served-requires
+fetch_add-served-requires g c =
     let held = c.give_back.ensures.held in (
       search rules,
       search rules,

@@ -20,8 +20,8 @@ fetch_add-requires g c =
           st.4 (st.5 ∙ sym (ap (λ m. m.0.number) held)) st.6,
     )
 
-pub fetch_add-requires-2 : goal.fetch_add-requires-2
-fetch_add-requires-2 g c =
+pub fetch_add-served-requires : goal.fetch_add-served-requires
+fetch_add-served-requires g c =
     let held = c.give_back.ensures.held in
     let st = c.requires.stored in
     let did = c.fetch_add.ensures.2 st.0 st.1 None (ap (λ m. m.0.doing) held ∙ st.3) in (
