@@ -21,6 +21,7 @@ use Rattle.column_book.specs.Entries.{records, content_in}
 use Rattle.book_file.specs.declared.found.OpenFault.{OpenFault}
 use Rattle.book_file.specs.declared.found.OpenFault.TheVariants as file
 use Rattle.book_file.specs.File.{IsBlank, StandsFor}
+use Rattle.book_file.specs.Found.{count_of}
 use Rattle.book_journal.specs.Crashes.{OnlyReads}
 use Rattle.book_journal.specs.Looking.{Reads}
 use Rattle.book_journal.specs.Opening.{OpenLeaves, IsRefused}
@@ -165,7 +166,7 @@ module _ {D : Type 0} (honest : D → Type 0) (seen : D → List ℕ) (images : 
 
   module _ (reads_image : (d : D) → honest d → images d (seen d)) (w : Scenario) (whole : IsWhole w) (true_law : LawOfTrueLists) (standing : LawOfStanding)
       (sink : Change) (start : D) (j0 j1 : JournalState D) (shape : j0.shape ≡ w.shape)
-      (stands : honest start → StandsFor w.shape (records j0.entries) (seen start))
+      (stands : honest start → StandsFor w.shape (records j0.entries) (seen start)) (few : count_of (records j0.entries) ≤ ROOM)
       (leaves : honest start → OpenLeaves honest seen images moment since w.shape start j0.disk) (was : honest j0.disk → honest start)
       (calm : faults_of start ≤ faults_of j0.disk)
       (goes : GoesOn honest seen images moment since faults_of j0 j1) where
@@ -189,6 +190,7 @@ module _ {D : Type 0} (honest : D → Type 0) (seen : D → List ℕ) (images : 
       full = records (with_fault j1.entries j1.fault);
       acked = ran.acked;
       stood = stands;
+      few = few;
       left = λ h. leaving.left honest seen images moment since w standing start j0 j1 (ran.shape ∙ shape) (stands h) (leaves h) (run_is h) ran.legal;
       files = λ h. files_left (images start) (images j1.disk) (since j1.disk (moment start)) delivered w (records j0.entries) (records j1.entries)
           (records (with_fault j1.entries j1.fault))

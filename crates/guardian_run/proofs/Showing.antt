@@ -7,10 +7,12 @@ use Rattle.lg_model.specs.Scenario.{Scenario}
 use Rattle.sketchlet_wire.specs.Uploads.{UploadData}
 use Rattle.scenario_parts.specs.Whole.{IsWhole}
 use Rattle.scenario_make.specs.Generator.{generated}
+use Rattle.column_book.specs.declared.book.TheConstants.{ROOM}
 use Rattle.column_book.specs.Entries.{records, content_in}
 use Rattle.book_file.specs.declared.found.OpenFault.{OpenFault}
 use Rattle.book_file.specs.declared.found.OpenFault.TheVariants as file
 use Rattle.book_file.specs.File.{StandsFor}
+use Rattle.book_file.specs.Found.{count_of}
 use Rattle.book_journal.specs.Opening.{OpenLeaves}
 use Rattle.book_journal.specs.Runs.{JournalState, with_fault}
 use Rattle.book_laws.specs.Laws.{LawOfStanding, LawOfTrueLists}
@@ -88,7 +90,7 @@ module _ {D : Type 0} (honest : D → Type 0) (seen : D → List ℕ) (images : 
 
   module _ (reads_image : (d : D) → honest d → images d (seen d)) (w : Scenario) (whole : IsWhole w) (true_law : LawOfTrueLists) (standing : LawOfStanding)
       (sink : Change) (start : D) (j0 j1 : JournalState D) (shape : j0.shape ≡ w.shape)
-      (stands : honest start → StandsFor w.shape (records j0.entries) (seen start))
+      (stands : honest start → StandsFor w.shape (records j0.entries) (seen start)) (few : count_of (records j0.entries) ≤ ROOM)
       (leaves : honest start → OpenLeaves honest seen images moment since w.shape start j0.disk) (was : honest j0.disk → honest start)
       (calm : faults_of start ≤ faults_of j0.disk)
       (goes : GoesOn honest seen images moment since faults_of j0 j1) (rounds : ℕ) where
@@ -101,7 +103,7 @@ module _ {D : Type 0} (honest : D → Type 0) (seen : D → List ℕ) (images : 
         ShowsFrom honest seen images moment since faults_of rounds w sink start j1.disk s
     shown s line text ran says is output puts write =
         let u =
-        is_run_kept honest seen images moment since faults_of reads_image w whole true_law standing sink start j0 j1 shape stands leaves was calm goes
+        is_run_kept honest seen images moment since faults_of reads_image w whole true_law standing sink start j0 j1 shape stands few leaves was calm goes
         s status.Ok line ran says (λ _. refl) in
         record {
           text = text;
@@ -136,19 +138,19 @@ module _ {D : Type 0} (honest : D → Type 0) (seen : D → List ℕ) (images : 
     shows_ends s (Ok (told.Report text)) ran _ end _ = report_shown s ran.0.0 text.items ran.0.1 ran.1 end
     shows_ends s (Ok (told.Conflict text)) ran _ end _ =
         as_run rounds w sink start j1.disk s
-        (run_ends honest seen images moment since faults_of reads_image w whole true_law standing sink start j0 j1 shape stands leaves was calm goes
+        (run_ends honest seen images moment since faults_of reads_image w whole true_law standing sink start j0 j1 shape stands few leaves was calm goes
         s (Ok (told.Conflict text)) ran tt end tt) (plain s status.Conflict end.0 (λ h. cc) (λ h. cc))
     shows_ends s (Ok (told.Full text)) ran _ end _ =
         as_run rounds w sink start j1.disk s
-        (run_ends honest seen images moment since faults_of reads_image w whole true_law standing sink start j0 j1 shape stands leaves was calm goes
+        (run_ends honest seen images moment since faults_of reads_image w whole true_law standing sink start j0 j1 shape stands few leaves was calm goes
         s (Ok (told.Full text)) ran tt end tt) (plain s status.Full end.0 (λ h. cc) (λ h. cc))
     shows_ends s (Ok (told.DiskFault text)) ran _ end _ =
         as_run rounds w sink start j1.disk s
-        (run_ends honest seen images moment since faults_of reads_image w whole true_law standing sink start j0 j1 shape stands leaves was calm goes
+        (run_ends honest seen images moment since faults_of reads_image w whole true_law standing sink start j0 j1 shape stands few leaves was calm goes
         s (Ok (told.DiskFault text)) ran tt end tt) (plain s status.DiskFault end.0 (λ h. cc) (λ h. cc))
     shows_ends s (Err f) _ ran _ end =
         as_run rounds w sink start j1.disk s
-        (run_ends honest seen images moment since faults_of reads_image w whole true_law standing sink start j0 j1 shape stands leaves was calm goes
+        (run_ends honest seen images moment since faults_of reads_image w whole true_law standing sink start j0 j1 shape stands few leaves was calm goes
         s (Err f) tt ran tt end) (starved_end s end.0)
 
   -- ---- the whole command

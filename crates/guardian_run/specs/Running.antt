@@ -124,9 +124,9 @@ pub record IsStart {D : Type 0} (honest : D → Type 0) (seen : D → List ℕ) 
   pub leaves : honest old → OpenLeaves honest seen images moment since w.shape old new
   pub reads : honest old → (IsBlank (seen old) → ⊥) → OnlyReads honest seen images moment since old new
 
--- Uploads were made, from the list `before`, for which the file of an honest disk stood. What they leave is legal at
--- each moment, file by file too, and each acknowledged upload is in it; what is told of it is true; and where all that
--- is brought was there, the file is as before.
+-- Uploads were made, from the list `before`, for which the file of an honest disk stood, and for which there was room.
+-- What they leave is legal at each moment, file by file too, and each acknowledged upload is in it; what is told of it is
+-- true; and where all that is brought was there, the file is as before.
 pub record HasUploaded {D : Type 0} (honest : D → Type 0) (seen : D → List ℕ) (images : D → List ℕ → Type 0)
     (moment : D → ℕ) (since : D → ℕ → List ℕ → Type 0) (rose : Type 0) (w : Scenario) (s : Status) (text : List ℕ)
     (old new : D) : Type 0 where
@@ -135,6 +135,7 @@ pub record HasUploaded {D : Type 0} (honest : D → Type 0) (seen : D → List �
   pub full : List UploadData
   pub acked : Acks
   pub stood : honest old → StandsFor w.shape before (seen old)
+  pub few : count_of before ≤ ROOM
   pub left : honest old →
       IsLeft (StandsFor w.shape) delivered w before (images old) (images new) (since new (moment old)) kept full
   pub files : honest old →

@@ -164,6 +164,8 @@ fn show_over<K: Sink, D: Disk + Send, G: Gate, R: Threads + Wait + Sync>(
         Ok(journal) => journal,
         Err((fault, disk)) => return (end(alloc, Err(Refusal::from(fault)), sink), disk),
     };
+    // At most as many columns as there is room for.
+    journal.book().count();
     let (told, journal) = show(alloc, rt, rounds, scenario, journal, gate);
     let (_, disk) = journal.close();
     (end_run(told, sink), disk)

@@ -38,6 +38,8 @@ fn run_over<K: Sink, D: Disk + Send, G: Gate, R: Threads + Wait + Sync>(
         Ok(journal) => journal,
         Err((fault, disk)) => return (end(alloc, Err(Refusal::from(fault)), sink), disk),
     };
+    // At most as many columns as there is room for.
+    journal.book().count();
     let (told, journal) = tell(alloc, rt, scenario, journal, gate);
     let (_, disk) = journal.close();
     (end_run(told, sink), disk)

@@ -1,8 +1,10 @@
-use Rattle.std.proofs.Common.{sym, ap, subst, ◌∙◌}
+use Rattle.std.proofs.Common.{◌≡◌, ◌≤◌, List, sym, ap, subst, ◌∙◌, arith}
 use Rattle.lg_model.specs.Placing.{Shape}
 use Rattle.column_book.specs.declared.book.TheConstants.{ROOM}
+use Rattle.column_book.specs.declared.entry.Entry.{Entry}
 use Rattle.column_book.specs.Entries.{records}
 use Rattle.book_file.specs.File.{StandsFor}
+use Rattle.book_file.specs.Found.{count_of}
 use Rattle.book_journal.specs.Looking.{Reads}
 use Rattle.book_journal.specs.Opening.{IsRefused, OpenLeaves}
 use Rattle.guardian_run.specs.Changes.{change}
@@ -38,11 +40,16 @@ returns-clause-ends g c =
     let j = c.in-Ok.journal in
     let new = c.show-told.result.1 in
     let o = c.in-Ok.ensures in
+    let b = c.book.ensures in
+    let few : count_of (records j.entries) ≤ ROOM =
+    let count : count_of (records j.entries) ≡ c.count.result = ap (λ (es : List Entry). count_of (records es)) (sym b.2) ∙ sym c.count.ensures.value in
+    let room : c.book.result.now.room ≡ ROOM = b.1 ∙ ap (λ x. x.room) o.book in
+    let low = c.count.ensures.few in omega (arith, count, room, low) in
     subst (λ d. ShowsFrom g.D.Disk.honest g.D.Disk.seen g.D.Disk.images g.D.Disk.moment g.D.Disk.since g.D.Disk.faults c.args.rounds w sink start d c.end_run.result)
     (sym c.close-disk.ensures.disk)
     (shows_ends g.D.Disk.honest g.D.Disk.seen g.D.Disk.images g.D.Disk.moment g.D.Disk.since g.D.Disk.faults (g.met.D.Disk g.world.𝓛 g.world.𝓜 g.world.𝓡 ((λ s x. x), (λ x. x), (λ x. x), λ x. x)).reads_image w c.shape.ensures.whole
     c.lists_are_true.ensures c.files_stand_for_one_list.ensures sink start j new (ap (λ x. x.shape) o.book ∙ asked)
-    (λ h. subst (λ (s : Shape). StandsFor s (records j.entries) (g.D.Disk.seen start)) asked (o.stands h))
+    (λ h. subst (λ (s : Shape). StandsFor s (records j.entries) (g.D.Disk.seen start)) asked (o.stands h)) few
     (λ h. subst (λ (s : Shape). OpenLeaves g.D.Disk.honest g.D.Disk.seen g.D.Disk.images g.D.Disk.moment g.D.Disk.since s start j.disk) asked (o.leaves h))
     o.was o.never_falls c.show-told.ensures.goes_on c.args.rounds c.end_run.result c.show-told.result.0 c.show-told.ensures.told c.show-told.ensures.starved
     c.end_run.ensures.told c.end_run.ensures.starved)
