@@ -1,13 +1,21 @@
-//! The yardstick of `bench/run`: what `guardian run` and `guardian capture` do, as plain Rust over the standard
+//! The yardstick of `bench/run`: what `guardian run`, `capture`, `ask` and `list` do, as plain Rust over the standard
 //! library. It is written from docs/FORMATS.md and docs/DEFINITIONS.md, shares no code with the program, and proves
 //! nothing.
 //!
 //!     yardstick run < SCENARIO
 //!     yardstick capture < SCENARIO
+//!     yardstick ask < SCENARIO
+//!     yardstick ask hash < SCENARIO
+//!     yardstick list
 //!
-//! It is meant for texts that are scenarios. Every other text is refused by its line alone, with no why.
+//! It is meant for texts that are scenarios and files that are books. Every other text is refused by its line alone,
+//! with no why. `run` keeps its book in memory and makes no file; `ask` and `list` read `guardian.book` into an ordered
+//! map, `ask hash` into a hash map.
 
-use std::collections::HashMap;
+mod kept;
+
+use kept::Map;
+use std::collections::{BTreeMap, HashMap};
 use std::io::{self, Read, Write};
 
 const MOST_BYTES: u64 = 16_777_216;
@@ -16,11 +24,13 @@ const SKETCHLET_BYTES: usize = 14 + 6 * MOST_ROWS;
 
 // ---- the scenario --------------------------------------------------------------------------------------------------
 
+#[derive(PartialEq)]
 enum Hash {
     Ports,
     Seed(u64),
 }
 
+#[derive(PartialEq)]
 struct Shape {
     rows: usize,
     width: usize,
@@ -119,7 +129,7 @@ impl Shape {
 
 // ---- reading -------------------------------------------------------------------------------------------------------
 
-/// The words of a line that are left, `None` behind the last one.
+/// The words of a line that are left, `None` after the last one.
 struct Words<'a>(Option<&'a [u8]>);
 
 impl<'a> Words<'a> {
@@ -535,7 +545,7 @@ fn simulate(scenario: &Scenario) -> Vec<Vec<Sketchlet>> {
     inboxes
 }
 
-/// One packet over the hops whose delays are given; answers what it carries behind them.
+/// One packet over the hops whose delays are given; answers what it carries after them.
 fn send(switches: &mut [Switch], flow: &Flow, rows: usize, size: u32, delays: &[u32]) -> Option<Sketchlet> {
     let mut carried = None;
     for (hop, delay) in delays.iter().enumerate() {
@@ -552,7 +562,7 @@ fn send(switches: &mut [Switch], flow: &Flow, rows: usize, size: u32, delays: &[
 // ---- the output ----------------------------------------------------------------------------------------------------
 
 type Key = (u16, u32, u16);
-type Book = HashMap<Key, [Bucket; MOST_ROWS]>;
+type Book = HashMap<Key, kept::Column>;
 
 fn keep(book: &mut Book, sketchlet: &Sketchlet) {
     let two = |at: usize| u16::from_be_bytes([sketchlet.bytes[at], sketchlet.bytes[at + 1]]);
@@ -572,22 +582,26 @@ fn value(least: Option<u32>, last: u32) -> String {
     }
 }
 
-fn report(scenario: &Scenario, inboxes: &[Vec<Sketchlet>], out: &mut Vec<u8>) -> io::Result<()> {
-    let rows = scenario.shape.rows;
+fn booked(inboxes: &[Vec<Sketchlet>]) -> Book {
     let mut book = Book::new();
     for sketchlet in inboxes.iter().flatten() {
         keep(&mut book, sketchlet);
     }
+    book
+}
+
+fn report(scenario: &Scenario, book: &impl Map, out: &mut Vec<u8>) -> io::Result<()> {
+    let rows = scenario.shape.rows;
     for ask in &scenario.asks {
         let (flow, switch) = (&scenario.flows[ask.flow], scenario.switches.list[ask.switch]);
-        let bucket = |row: usize| book.get(&(switch, ask.epoch, flow.places[row] as u16)).map(|column| column[row]);
+        let bucket = |row: usize| book.at(&(switch, ask.epoch, flow.places[row] as u16)).map(|column| column[row]);
         let known: Vec<Bucket> = (0..rows).filter_map(bucket).collect();
         let bytes = value(known.iter().map(|b| b.bytes).min(), u32::MAX);
         let delay = value(known.iter().map(|b| b.delay.into()).min(), u16::MAX.into());
         write!(out, "flow {} switch {} epoch {} ", flow.name, switch, ask.epoch)?;
         writeln!(out, "rows {} of {} bytes {} delay {}", known.len(), rows, bytes, delay)?;
     }
-    writeln!(out, "columns {}", book.len())
+    writeln!(out, "columns {}", book.size())
 }
 
 fn capture(scenario: &Scenario, inboxes: &[Vec<Sketchlet>], out: &mut Vec<u8>) -> io::Result<()> {
@@ -604,19 +618,37 @@ fn capture(scenario: &Scenario, inboxes: &[Vec<Sketchlet>], out: &mut Vec<u8>) -
     writeln!(out, "sketchlets {}", inboxes.iter().map(Vec::len).sum::<usize>())
 }
 
-fn main() -> io::Result<()> {
-    let command = std::env::args().nth(1).unwrap_or_default();
+/// The scenario of standard input.
+fn scenario() -> io::Result<Scenario> {
     let mut text = Vec::new();
     io::stdin().lock().take(MOST_BYTES).read_to_end(&mut text)?;
-    let scenario = Scenario::read(&text).unwrap_or_else(|line| {
+    Ok(Scenario::read(&text).unwrap_or_else(|line| {
         println!("yardstick: scenario line {line}");
         std::process::exit(2);
-    });
-    let inboxes = simulate(&scenario);
+    }))
+}
+
+fn main() -> io::Result<()> {
+    let command = std::env::args().nth(1).unwrap_or_default();
     let mut out = Vec::new();
     match command.as_str() {
-        "run" => report(&scenario, &inboxes, &mut out)?,
-        "capture" => capture(&scenario, &inboxes, &mut out)?,
+        "run" => {
+            let scenario = scenario()?;
+            report(&scenario, &booked(&simulate(&scenario)), &mut out)?;
+        }
+        "capture" => {
+            let scenario = scenario()?;
+            capture(&scenario, &simulate(&scenario), &mut out)?;
+        }
+        "ask" => {
+            let scenario = scenario()?;
+            if std::env::args().nth(2).as_deref() == Some("hash") {
+                report(&scenario, &kept::kept::<Book>(&scenario.shape), &mut out)?;
+            } else {
+                report(&scenario, &kept::kept::<BTreeMap<_, _>>(&scenario.shape), &mut out)?;
+            }
+        }
+        "list" => kept::list(&mut out)?,
         _ => std::process::exit(1),
     }
     io::stdout().write_all(&out)
