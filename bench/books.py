@@ -240,9 +240,9 @@ def of_lock(bench):
 
 # ---- the table -----------------------------------------------------------------------------------------------------
 
-HEAD = ["What", "Columns", "Against", "ns", "Its ns", "Ratio", "Growth", "A second", "Processor, ns", "Clock, ns"]
-HEAD += ["Run, ms", "Peak, MB", "Its peak", "Same", "A thing"]
-WIDE = (23, 10, 10, 10, 10, 5, 6, 10, 13, 10, 8, 8, 8, 4, 8)
+HEAD = ["What", "Columns", "Counts", "Against", "Processor, ns", "Clock, ns", "Its ns", "Ratio", "Growth", "A second"]
+HEAD += ["Run, ms", "Peak, MB", "Its peak"]
+WIDE = (24, 10, 6, 10, 13, 9, 9, 5, 6, 10, 7, 8, 8)
 
 
 def ratio(row, mine, other):
@@ -253,33 +253,31 @@ def ratio(row, mine, other):
     return statistics.median(a / b for a, b in pairs if b > 0)
 
 
-def lines(row, turns, same, first):
+def lines(row, turns, first):
     """A line for each side that the program is measured against, or one where there is none."""
     mine = turns[0]
     own = mine.counted(row) / row.count
     for side, other in list(zip(row.sides, turns))[1:] or [(None, None)]:
-        words = [row.name, row.size, side.name if side else "-", f"{own * 1e9:.0f}"]
-        words += [f"{other.counted(row) / row.count * 1e9:.0f}", f"{ratio(row, mine, other):.2f}"] if other else "--"
-        words += [f"{own / first:.2f}", f"{1 / own:,.0f}"]
+        words = [f"{row.name}, {row.thing}", row.size, "clock" if row.clock else "cpu", side.name if side else "-"]
         words += [f"{seconds / row.count * 1e9:.0f}" for seconds in mine.times(row)]
-        words += [f"{mine.whole(row) * 1e3:.1f}", peak(best(mine.each))]
-        words += [peak(best(other.each)), "yes" if same else "NO"] if other else "--"
-        yield in_table([*words, row.thing], WIDE)
+        words += [f"{other.counted(row) / row.count * 1e9:.0f}", f"{ratio(row, mine, other):.2f}"] if other else "--"
+        words += [f"{own / first:.2f}", f"{1 / own:,.0f}", f"{mine.whole(row) * 1e3:.1f}", peak(best(mine.each))]
+        yield in_table([*words, peak(best(other.each)) if other else "-"], WIDE)
 
 
-def table(rows, times, out):
-    """Measures row after row, and prints its lines. Says whether all that was compared was the same."""
-    print("\nThe book. ns: of one thing, processor time, the least; on a disk and of the lock by the clock, the median.")
-    print("Growth: over the first line of that name. Run: the whole run, with what is taken off the other times.\n")
-    print(in_table(HEAD, WIDE))
-    print(in_table(["---"] * len(WIDE), WIDE))
+def table(rows, times, out, page):
+    """Measures row after row, and puts its lines on a page. Says whether all that was compared was the same."""
+    page.put(in_table(HEAD, WIDE))
+    page.put(in_table(["---"] * len(WIDE), WIDE))
     first, well = {}, True
     for row in rows:
         turns, same = take_turns(row, times, out)
-        well = well and same
         own = first.setdefault(row.name, turns[0].counted(row) / row.count)
-        for it in lines(row, turns, same, own):
-            print(it, flush=True)
+        for it in lines(row, turns, own):
+            page.put(it)
+        if not same:
+            print(f"The outputs of {row.name} differ.")
+        well = well and same
     return well
 
 
@@ -294,13 +292,13 @@ def make_all(bench):
         make_questions(bench.questions(count), count)
 
 
-def shown(guardian, yardstick, parts, times):
-    """Prints the table. Says whether all that was compared was the same."""
+def shown(guardian, yardstick, parts, times, page):
+    """Measures, and fills a page. Says whether all that was compared was the same."""
     with tempfile.TemporaryDirectory(dir=MEMORY) as name:
         place = Path(name)
         bench = Bench(guardian, yardstick, parts, of_rust("parts"), of_c("disk"), of_c("sqlite", "-lsqlite3"), place)
         make_all(bench)
-        rows = list(of_commands(bench))
+        rows = list(of_commands(bench)) if guardian else []
         if parts:
             rows += [*of_parts(bench), *of_disk(bench), *of_lock(bench)]
-        return table(rows, times, place / "output")
+        return table(rows, times, place / "output", page)

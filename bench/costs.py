@@ -1,5 +1,6 @@
 """What bench/run measures with: the places of its files, what a run costs, and the programs that are built for it."""
 import os
+import platform
 import resource
 import shutil
 import subprocess
@@ -10,6 +11,7 @@ from typing import NamedTuple
 
 TOP = Path(__file__).resolve().parent.parent
 KEPT = TOP / "out" / "bench"
+PAGE = TOP / "docs" / "PERFORMANCE.md"
 # Where the folders of runs are made: in memory, if the machine has a place there; None is the system's own.
 MEMORY = "/dev/shm" if os.access("/dev/shm", os.W_OK | os.X_OK) else None
 
@@ -48,6 +50,41 @@ def peak(cost):
 def in_table(cells, wide):
     """A line of a table in Markdown, with cells of these widths at least."""
     return "| " + " | ".join(cell.rjust(width) for cell, width in zip(cells, wide)) + " |"
+
+
+def machine():
+    """When and on what is measured, in one sentence."""
+    with open("/proc/cpuinfo") as info:
+        model = next((line.split(":")[1].strip() for line in info if line.startswith("model name")), "a processor")
+    processors = len(os.sched_getaffinity(0))
+    return f"Measured on {time.strftime('%-d %B %Y')} on {processors} processors ({model}), {platform.platform()}"
+
+
+class Page:
+    """The lines of a table as they come, printed at once, and what docs/PERFORMANCE.md then has in their place."""
+
+    def __init__(self, name, how):
+        self.name, self.lines, self.load = name, [], os.getloadavg()[0]
+        print(f"\n{how}\n")
+
+    def put(self, line):
+        self.lines.append(line)
+        print(line, flush=True)
+
+    def close(self, times):
+        """Ends the table with what it was measured on."""
+        load = f"the load went from {self.load:.1f} to {os.getloadavg()[0]:.1f}"
+        self.put("")
+        self.put(f"{machine()};")
+        self.put(f"{load}, with `--best {times}`.")
+
+    def write(self):
+        """Puts the lines in the place of those that stand between the two comments of this name."""
+        text = PAGE.read_text(encoding="utf-8")
+        begin, end = f"<!-- {self.name}: begin -->\n", f"<!-- {self.name}: end -->\n"
+        before, rest = text.split(begin)
+        _, after = rest.split(end)
+        PAGE.write_text(before + begin + "\n" + "\n".join(self.lines) + "\n\n" + end + after, encoding="utf-8")
 
 
 def built(command, out):

@@ -137,9 +137,9 @@ def rounds(cases, programs, times):
 
 # ---- the table -----------------------------------------------------------------------------------------------------
 
-HEAD = ["Command", "Hops", "Rows", "Hash", "Pick", "Burst", "Ratio at 10,000", "at 100,000", "at 1,000,000", "ms"]
-HEAD += ["ns a packet", "Growth", "Million packets/s", "MB/s of text", "Peak, MB", "Its peak", "Same"]
-WIDE = (7, 4, 4, 5, 6, 5, 15, 10, 12, 7, 11, 6, 17, 12, 8, 8, 4)
+HEAD = ["Command", "Hops", "Rows", "Hash", "Pick", "Burst", "10,000", "100,000", "1,000,000", "ns", "Growth"]
+HEAD += ["Packets/s", "MB/s", "Peak, MB", "Its peak"]
+WIDE = (7, 4, 4, 5, 6, 5, 6, 7, 9, 5, 6, 9, 5, 8, 8)
 
 
 class Measured(NamedTuple):
@@ -176,51 +176,47 @@ class Row(NamedTuple):
         words = case.words()[:1] + case.words()[2:]
         ratios = [f"{it.ratio():.2f}" if it.other else "-" for it in self.cases]
         words += ratios + ["-"] * (3 - len(ratios))
-        words += [f"{mine.seconds * 1e3:.1f}", f"{last.each() * 1e9:.0f}", f"{self.growth():.2f}"]
-        words += [f"{1e-6 / last.each():.1f}", f"{size / mine.seconds / 1e6:.1f}", peak(mine)]
-        words += [peak(other), "yes" if self.same() else "NO"] if other else ["-", "-"]
+        words += [f"{last.each() * 1e9:.0f}", f"{self.growth():.2f}", f"{1 / last.each():,.0f}"]
+        words += [f"{size / mine.seconds / 1e6:.1f}", peak(mine), peak(other) if other else "-"]
         return in_table(words, WIDE)
 
 
-def table(most, programs, times):
-    """Measures the cases, and prints a line for those that differ in size alone."""
-    print("\nThe run. Processor time, the least of all runs; growth: the greatest time a packet over that at 10,000; the")
-    print("other columns are of the largest size.")
-    print(f"Books are made in {MEMORY or tempfile.gettempdir()}, in the row `disk` in {KEPT}.\n")
-    print(in_table(HEAD, WIDE))
-    print(in_table(["---"] * len(WIDE), WIDE))
+def table(most, programs, times, page):
+    """Measures the cases, and puts a line for those that differ in size alone on a page."""
+    page.put(in_table(HEAD, WIDE))
+    page.put(in_table(["---"] * len(WIDE), WIDE))
     rows = []
     for cases in kinds(most):
         for case in cases:
             make(case)
         found = rounds(cases, programs, times)
         rows.append(Row([Measured(case, *(costs + [None])[:2], same) for case, costs, same in found]))
-        print(rows[-1].line(), flush=True)
+        page.put(rows[-1].line())
+        if not rows[-1].same():
+            print(f"The outputs of {rows[-1].cases[0].file().name} or a larger one differ.")
     return rows
 
 
 def demonstration(program, times):
-    """Prints what `demo 1000` costs beside `run` on the text of `make 1000`, run in turn."""
+    """What `demo 1000` costs beside `run` on the text of `make 1000`, run in turn."""
     text, out = KEPT / "make-1000.scenario", KEPT / "demo.output"
     alone(program, "make 1000", os.devnull, text)
     kinds = [("demo 1000", os.devnull), ("run", text)]
     costs = [[alone(program, words, source, out) for words, source in kinds] for _ in range(times)]
-    mine, read = (best(them).seconds for them in zip(*costs))
-    print(f"demo 1000: {mine * 1e3:.1f} ms; run on the text of make 1000: {read * 1e3:.1f} ms; ratio {mine / read:.2f}")
+    mine, read = (best(them).seconds * 1e3 for them in zip(*costs))
+    return f"`demo 1000`: {mine:.1f} ms; `run` on the text of `make 1000`: {read:.1f} ms; ratio {mine / read:.2f}."
 
 
-def shown(most, programs, times):
-    """Prints the table and what follows from it. Says whether all outputs were the same."""
-    rows = table(most, programs, times)
+def shown(most, programs, times, page):
+    """Measures, and fills a page. Says whether all outputs were the same."""
+    rows = table(most, programs, times, page)
     # What the calls of a disk cost is the machine's; the yardstick makes none.
     inside = [row for row in rows if not row.cases[0].case.disk]
-    print()
+    page.put("")
     if len(programs) > 1:
-        print(f"Greatest ratio: {max(it.ratio() for row in inside for it in row.cases):.2f}")
-    print(f"Greatest growth: {max(row.growth() for row in inside):.2f}")
-    for row in rows:
-        if row.cases[0].case.disk:
-            for it in row.cases:
-                print(f"On the disk {it.case.packets} packets took {it.mine.took * 1e3:.0f} ms by the clock.")
-    demonstration(programs[0], 2 * times)
+        page.put(f"- Greatest ratio: {max(it.ratio() for row in inside for it in row.cases):.2f}.")
+    page.put(f"- Greatest growth: {max(row.growth() for row in inside):.2f}.")
+    for it in (it for row in rows for it in row.cases if it.case.disk):
+        page.put(f"- On the disk {it.case.packets:,} packets took {it.mine.took * 1e3:.0f} ms by the clock.")
+    page.put(f"- {demonstration(programs[0], 2 * times)}")
     return all(row.same() for row in rows)
