@@ -53,11 +53,11 @@ def in_table(cells, wide):
 
 
 def machine():
-    """When and on what is measured, in one sentence."""
-    with open("/proc/cpuinfo") as info:
-        model = next((line.split(":")[1].strip() for line in info if line.startswith("model name")), "a processor")
-    processors = len(os.sched_getaffinity(0))
-    return f"Measured on {time.strftime('%-d %B %Y')} on {processors} processors ({model}), {platform.platform()}"
+    """When and on what is measured."""
+    with open("/proc/cpuinfo", encoding="utf-8") as info:
+        model = next((line.split(":")[1].strip() for line in info if line.startswith("model name")), "of no name")
+    count, release = len(os.sched_getaffinity(0)), platform.release().split("-")[0]
+    return f"Measured on {time.strftime('%-d %B %Y')} on {count} processors ({model}, Linux {release});"
 
 
 class Page:
@@ -75,7 +75,7 @@ class Page:
         """Ends the table with what it was measured on."""
         load = f"the load went from {self.load:.1f} to {os.getloadavg()[0]:.1f}"
         self.put("")
-        self.put(f"{machine()};")
+        self.put(machine())
         self.put(f"{load}, with `--best {times}`.")
 
     def write(self):
