@@ -77,9 +77,8 @@ class Row(NamedTuple):
 
     name: str
     size: str
-    # How many things one run does, and what one is.
+    # How many things one run does; the name says what one is.
     count: int
-    thing: str
     sides: list
     # Whether the time by the clock counts, and the medians of the turns, in place of the least processor time.
     clock: bool = False
@@ -196,28 +195,28 @@ def of_commands(bench):
     for word, source in (("ask", none), ("list", os.devnull)):
         for size in SIZES:
             sides = bench.commands(word, size, source, 0, source)
-            name = f"`{word}`, no question" if word == "ask" else f"`{word}`"
-            yield Row(name, f"{size:,}", size, "column", sides, turns=1 if size == SIZES[-1] else 4)
+            name = "`list`, a column" if word == "list" else "opening by `ask`, a column"
+            yield Row(name, f"{size:,}", size, sides, turns=1 if size == SIZES[-1] else 4)
     sides = bench.commands("ask", SIZES[-1], bench.questions(QUESTIONS), SIZES[-1], none)
-    yield Row(f"`ask`, {QUESTIONS:,} questions", f"{SIZES[-1]:,}", QUESTIONS, "question", sides, turns=3)
+    yield Row("`ask`, a question", f"{SIZES[-1]:,}", QUESTIONS, sides, turns=3)
 
 
 def of_parts(bench):
     """The parts alone, with so many rounds that a book of every size takes some time."""
-    for word, name, more in (("open", "opening", []), ("lines", "lines of a list", ["write"])):
+    for word, name, more in (("open", "opening, a column", []), ("lines", "making a line", ["write"])):
         for size in SIZES:
             rounds = 4 * SIZES[-1] // size
             words = [word, bench.folder(size) / "guardian.book", str(rounds)]
             sides = side("parts", bench.parts, words) + side("Rust", bench.rust, words, *more)
-            yield Row(name, f"{size:,}", size * rounds, "column", sides)
+            yield Row(name, f"{size:,}", size * rounds, sides)
     count = OF_AN_UPLOAD * ADDED
     for size in (*SIZES[:2], SIZES[-1] - count):
         file = bench.place / "added.book"
         sides = side("parts", bench.parts, ["journal", file, str(ADDED)])
-        yield Row("adding", f"{size:,}", count, "column", sides, turns=2, file=file, content=bench.later(size))
+        yield Row("adding, a column", f"{size:,}", count, sides, turns=2, file=file, content=bench.later(size))
     words = ["frames", str(SKETCHLETS)]
     sides = side("parts", bench.parts, words) + side("Rust", bench.rust, words)
-    yield Row("frames", "-", SKETCHLETS // OF_AN_UPLOAD, "frame", sides)
+    yield Row("a frame of 16", "-", SKETCHLETS // OF_AN_UPLOAD, sides)
 
 
 def of_disk(bench):
@@ -226,7 +225,7 @@ def of_disk(bench):
     words = ["journal", file, str(APPENDED)]
     sides = side("parts", bench.parts, words) + side("C", bench.c, words)
     sides += side("SQLite", bench.sqlite, ["journal", f"{file}-db", str(APPENDED)])
-    yield Row("adding on a disk", "0", APPENDED, "upload", sides, True, 10, file, bench.later(0))
+    yield Row("on a disk, an upload", "0", APPENDED, sides, True, 10, file, bench.later(0))
 
 
 def of_lock(bench):
@@ -235,14 +234,14 @@ def of_lock(bench):
         words, none = ([bench.parts, "shared", str(count), str(workers)] for count in (UPLOADS, 0))
         sides = [Side("parts", Run(words), Run(none))] + side("no lock", bench.parts, ["alone", str(UPLOADS)])
         size = f"{workers} worker{'s' if workers > 1 else ''}"
-        yield Row("the lock", size, UPLOADS, "upload", sides, clock=True, turns=4)
+        yield Row("by the lock, an upload", size, UPLOADS, sides, clock=True, turns=4)
 
 
 # ---- the table -----------------------------------------------------------------------------------------------------
 
 HEAD = ["What", "Columns", "Counts", "Against", "Processor, ns", "Clock, ns", "Its ns", "Ratio", "Growth", "A second"]
 HEAD += ["Run, ms", "Peak, MB", "Its peak"]
-WIDE = (24, 10, 6, 10, 13, 9, 9, 5, 6, 10, 7, 8, 8)
+WIDE = (26, 10, 6, 10, 13, 9, 9, 5, 6, 10, 7, 8, 8)
 
 
 def ratio(row, mine, other):
@@ -258,7 +257,7 @@ def lines(row, turns, first):
     mine = turns[0]
     own = mine.counted(row) / row.count
     for side, other in list(zip(row.sides, turns))[1:] or [(None, None)]:
-        words = [f"{row.name}, {row.thing}", row.size, "clock" if row.clock else "cpu", side.name if side else "-"]
+        words = [row.name, row.size, "clock" if row.clock else "cpu", side.name if side else "-"]
         words += [f"{seconds / row.count * 1e9:.0f}" for seconds in mine.times(row)]
         words += [f"{other.counted(row) / row.count * 1e9:.0f}", f"{ratio(row, mine, other):.2f}"] if other else "--"
         words += [f"{own / first:.2f}", f"{1 / own:,.0f}", f"{mine.whole(row) * 1e3:.1f}", peak(best(mine.each))]
