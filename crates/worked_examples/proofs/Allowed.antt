@@ -1,8 +1,7 @@
 -- Which carrying is allowed.
-use Rattle.std.specs.Prelude.{◌≡◌, ℕ, zero, suc, ◌+◌, ◌<◌, ◌≤◌, List, [], ◌∷◌, All, Any, length, slice_index_or}
+use Rattle.std.specs.Prelude.{◌≡◌, ℕ, zero, suc, ◌+◌, ◌<◌, ◌≤◌, List, [], ◌∷◌, All, Any, slice_index_or}
 use Rattle.std.proofs.Common.{ap, refl, subst, arith}
 use Rattle.std.proofs.lemmas.List.Elements.{All-from_recursion, All-nil}
-use Rattle.lg_model.specs.Scenario.{Scenario}
 use Rattle.lg_model.specs.Trace.{Meeting, meetings, ended_before}
 use Rattle.lg_model.specs.Carrying.{Carry, IsCarriedAt, IsAllowed}
 use Rattle.worked_examples.specs.Networks.{ports}
@@ -22,12 +21,23 @@ HasOne cs m = m.hop ≡ m.hops → 0 < ended_before carrying m → Any (λ (c : 
 pub some : IsAllowed carrying (entry 1 1 0 0 1 ∷ entry 2 2 1 0 0 ∷ [])
 some = record {
   rising = rising;
-  each = All-from_recursion (λ c. Any (IsCarriedAt carrying c) (meetings carrying)) (entry 1 1 0 0 1 ∷ entry 2 2 1 0 0 ∷ [])
-      ((2, met_at 2, omega arith, refl, record { packet = refl; hop = refl; switch = refl; epoch = refl; index = omega arith }),
-      ((5, met_at 5, omega arith, refl, record { packet = refl; hop = refl; switch = refl; epoch = refl; index = omega arith }), tt));
-  last = All-from_recursion (HasOne (entry 1 1 0 0 1 ∷ entry 2 2 1 0 0 ∷ [])) (meetings carrying)
-      (λ a b. absurd (omega (arith, a)), (λ a b. absurd (omega (arith, b)), (λ a b. absurd (omega (arith, a)), (λ a b. (0, entry 1 1 0 0 1, omega arith, refl, refl),
-      (λ a b. absurd (omega (arith, a)), (λ a b. (1, entry 2 2 1 0 0, omega arith, refl, refl), tt))))));
+  each = All-from_recursion (λ c. Any (IsCarriedAt carrying c) (meetings carrying)) (entry 1 1 0 0 1 ∷ entry 2 2 1 0 0 ∷ []) (
+    (2, met_at 2, omega arith, refl, record { packet = refl; hop = refl; switch = refl; epoch = refl; index = omega arith }),
+    ((5, met_at 5, omega arith, refl, record { packet = refl; hop = refl; switch = refl; epoch = refl; index = omega arith }), tt),
+  );
+  last = All-from_recursion (HasOne (entry 1 1 0 0 1 ∷ entry 2 2 1 0 0 ∷ [])) (meetings carrying) (
+    λ a b. absurd (omega (arith, a)),
+    (
+      λ a b. absurd (omega (arith, b)),
+      (
+        λ a b. absurd (omega (arith, a)),
+        (
+          λ a b. (0, entry 1 1 0 0 1, omega arith, refl, refl),
+          (λ a b. absurd (omega (arith, a)), (λ a b. (1, entry 2 2 1 0 0, omega arith, refl, refl), tt)),
+        ),
+      ),
+    ),
+  );
 }
   where
     rising : (k : ℕ) → k + 1 < 2 → slice_index_or (1 ∷ 2 ∷ []) k 0 < slice_index_or (1 ∷ 2 ∷ []) (k + 1) 0
@@ -49,12 +59,23 @@ pub record Fits (m : Meeting) : Type 0 where
   pub hop : m.hop ≡ m.switch_at + 1
 
 all_fit : All Fits (meetings carrying)
-all_fit = All-from_recursion Fits (meetings carrying)
-    (at, (at2, (record { few = omega arith; first = omega arith; hop = refl }, (record { few = omega arith; first = omega arith; hop = refl },
-    (record { few = omega arith; first = omega arith; hop = refl }, (record { few = omega arith; first = omega arith; hop = refl }, tt))))))
+all_fit = All-from_recursion Fits (meetings carrying) (
+  at,
+  (
+    at2,
+    (
+      record { few = omega arith; first = omega arith; hop = refl },
+      (
+        record { few = omega arith; first = omega arith; hop = refl },
+        (record { few = omega arith; first = omega arith; hop = refl }, (record { few = omega arith; first = omega arith; hop = refl }, tt)),
+      ),
+    ),
+  ),
+)
   where
     at : Fits (met_at 0)
     at = record { few = omega arith; first = omega arith; hop = refl }
+
     at2 : Fits (met_at 1)
     at2 = record { few = omega arith; first = omega arith; hop = refl }
 

@@ -1,10 +1,9 @@
 -- Which files are blank, and which records are not well formed.
-use Rattle.std.specs.Prelude.{◌≡◌, ℕ, ◌⊎◌, List, [], ◌∷◌, replicate}
+use Rattle.std.specs.Prelude.{◌≡◌, [], ◌∷◌, replicate}
 use Rattle.std.specs.List.{IsDistinct}
 use Rattle.std.proofs.Common.{ap, refl, inl, inr, ⊎_elim, arith, true≢false}
 use Rattle.lg_model.specs.declared.column.Dims.{Dims}
 use Rattle.lg_model.specs.Columns.{dims_of}
-use Rattle.sketchlet_wire.specs.Uploads.{upload_of}
 use Rattle.book_file.specs.File.{IsBlank, IsRecord, AreRecords}
 use Rattle.worked_examples.specs.Files.{shape, one}
 

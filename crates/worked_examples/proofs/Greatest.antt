@@ -1,5 +1,5 @@
 -- The scenario at the limits is one.
-use Rattle.std.specs.Prelude.{ℕ, ◌<◌, List, [], ◌∷◌, All}
+use Rattle.std.specs.Prelude.{◌<◌, [], ◌∷◌, All}
 use Rattle.std.specs.List.{range_with_len}
 use Rattle.std.proofs.Common.{refl, arith}
 use Rattle.std.proofs.lemmas.List.Elements.{All-from_recursion}
@@ -7,8 +7,31 @@ use Rattle.lg_model.specs.Scenario.{IsScenario, IsFlow, IsStep, IsAsk}
 use Rattle.worked_examples.specs.Limits.{long, greatest}
 
 path : All (λ s. s < 64) (range_with_len 48 16)
-path = All-from_recursion (λ s. s < 64) (range_with_len 48 16)
-    (omega arith, (omega arith, (omega arith, (omega arith, (omega arith, (omega arith, (omega arith, (omega arith, (omega arith, (omega arith, (omega arith, (omega arith, (omega arith, (omega arith, (omega arith, (omega arith, tt))))))))))))))))
+path = All-from_recursion (λ s. s < 64) (range_with_len 48 16) (
+  omega arith,
+  (
+    omega arith,
+    (
+      omega arith,
+      (
+        omega arith,
+        (
+          omega arith,
+          (
+            omega arith,
+            (
+              omega arith,
+              (
+                omega arith,
+                (omega arith, (omega arith, (omega arith, (omega arith, (omega arith, (omega arith, (omega arith, (omega arith, tt)))))))),
+              ),
+            ),
+          ),
+        ),
+      ),
+    ),
+  ),
+)
 
 pub at_them : IsScenario greatest
 at_them = record {

@@ -1,5 +1,5 @@
 -- What a crash may leave of the worked disk, and what not.
-use Rattle.std.specs.Prelude.{◌≡◌, ℕ, zero, suc, ◌<◌, ◌≤◌, ◌+◌, List, [], ◌∷◌, length, get_or}
+use Rattle.std.specs.Prelude.{◌≡◌, ℕ, zero, suc, ◌<◌, List, [], ◌∷◌, get_or}
 use Rattle.std.proofs.Common.{ap, refl, arith}
 use Rattle.lg_disk.specs.Disk.{Torn, Shorter}
 use Rattle.lg_disk.specs.Model.{start, IsImage, IsWritten}

@@ -1,9 +1,9 @@
 -- What runs leave and keep.
-use Rattle.std.specs.Prelude.{◌≡◌, ℕ, zero, suc, ◌<◌, List, [], ◌∷◌, ◌++◌, length, All, Bool, true, false, Result, Ok, Err, Some, None}
+use Rattle.std.specs.Prelude.{◌≡◌, ℕ, zero, suc, ◌<◌, List, [], ◌∷◌, ◌++◌, length, Bool, true, false, Result, Ok, Err}
 use Rattle.std.proofs.Common.{ap, refl, sym, ◌∙◌, subst, arith, true≢false}
 use Rattle.std.proofs.lemmas.List.Elements.{All-nil}
 use Rattle.lg_model.specs.declared.column.Bucket.{Bucket}
-use Rattle.lg_model.specs.Columns.{Cells, Column}
+use Rattle.lg_model.specs.Columns.{Column}
 use Rattle.lg_model.specs.Answer.{Content}
 use Rattle.sketchlet_wire.specs.Uploads.{UploadData, upload_of}
 use Rattle.column_book.specs.declared.book.TheConstants.{ROOM}
@@ -12,13 +12,12 @@ use Rattle.column_book.specs.Applying.{decide}
 use Rattle.link_deliveries.specs.Deliveries.{delivered, brought_in_all}
 use Rattle.flow_query.specs.Rebuilt.{IsRebuilt}
 use Rattle.lg_model.specs.Answer.{look_in}
-use Rattle.lg_model.specs.Joining.{AreJoinable}
 use Rattle.book_file.specs.Between.{IsBetween}
 use Rattle.book_laws.specs.Legal.{host_at, uploads_at, upload_at, IsLegalNext, AreLegalNext, IsLegal}
 use Rattle.book_laws.specs.Leaving.{IsLeft}
-use Rattle.book_laws.specs.Keeping.{IsJoined, AreAcked, IsAnswered, KeepsReplies}
+use Rattle.book_laws.specs.Keeping.{IsJoined, AreAcked, KeepsReplies}
 use Rattle.book_laws.proofs.Lists.{same_rest}
-use Rattle.worked_examples.specs.Arrivals.{to_two, eleven, twelve, twelve_too}
+use Rattle.worked_examples.specs.Arrivals.{to_two, eleven}
 use Rattle.worked_examples.specs.Keeping.{first_host, second_host, all, none, of_list, no_file, shape, kept, sketch}
 
 second_next : IsLegalNext delivered to_two [] second_host

@@ -1,11 +1,10 @@
 -- Answers of a content, by computation.
-use Rattle.std.specs.Prelude.{◌≡◌, ℕ, List, [], ◌∷◌, map}
+use Rattle.std.specs.Prelude.{◌≡◌, ℕ, [], ◌∷◌, map}
 use Rattle.lg_model.specs.declared.answer.Answer.{Answer}
 use Rattle.lg_model.specs.declared.answer.Value.{Value}
 use Rattle.lg_model.specs.declared.answer.Value.TheVariants.{Unknown, AtMost, Saturated}
 use Rattle.lg_model.specs.declared.limits.TheConstants.{LAST_BYTES, LAST_DELAY}
 use Rattle.lg_model.specs.declared.scenario.Pick.TheVariants.{Turns}
-use Rattle.lg_model.specs.Columns.{Column}
 use Rattle.lg_model.specs.Scenario.{Scenario}
 use Rattle.lg_model.specs.Answer.{Content, known, look_in, value_of, answered}
 use Rattle.lg_model.specs.Bound.{IsAtLeast, IsLow}
@@ -35,7 +34,8 @@ pub record WorkedAnswers : Type 0 where
       ∷ says 1 (AtMost 5) (AtMost 6) ∷ says 2 (AtMost 0) (AtMost 6)
       ∷ says 1 Saturated Saturated ∷ says 0 Unknown Unknown ∷ says 0 Unknown Unknown ∷ []
   -- saturated where the least is the last value, and not where any is
-  pub least_is_last : map (value_of LAST_DELAY) ((65535 ∷ 65534 ∷ []) ∷ (65535 ∷ 65535 ∷ []) ∷ []) ≡ AtMost 65534 ∷ Saturated ∷ []
+  pub least_is_last : map (value_of LAST_DELAY) ((65535 ∷ 65534 ∷ []) ∷ (65535 ∷ 65535 ∷ []) ∷ [])
+      ≡ AtMost 65534 ∷ Saturated ∷ []
   -- what is below the truth is not at least the truth, and what is past the last value is not low
   pub too_low : IsAtLeast (AtMost 4) 5 → ⊥
   pub high_bytes : IsLow (bucket 4294967296 0) → ⊥

@@ -1,7 +1,6 @@
 -- What an upload does to the entries of a book, by computation.
-use Rattle.std.specs.Prelude.{◌≡◌, ℕ, List, [], ◌∷◌, ◌++◌, map, true, false, Option, None, Some, Result, Ok, Err}
+use Rattle.std.specs.Prelude.{◌≡◌, ℕ, List, [], ◌∷◌, ◌++◌, map, true, false, None, Some, Result, Ok, Err}
 use Rattle.lg_model.specs.declared.scenario.Hash.TheVariants.{Ports}
-use Rattle.lg_model.specs.declared.column.Bucket.{Bucket}
 use Rattle.lg_model.specs.Placing.{Shape}
 use Rattle.lg_model.specs.Columns.{Column}
 use Rattle.sketchlet_wire.specs.Uploads.{UploadData, upload_of}
@@ -43,7 +42,8 @@ book room es = record { shape = shape; room = room; entries = es; ready = [] }
 pub record WorkedApplying : Type 0 where
   pub stored : columns_in (records kept) ≡ col 0 10 ∷ col 2 30 ∷ col 1 20 ∷ []
   pub content : content_in (records kept)
-      ≡ (key_of 5 6 0, cells (bucket 10 1 ∷ [])) ∷ (key_of 5 6 1, cells (bucket 20 1 ∷ [])) ∷ (key_of 5 6 2, cells (bucket 30 1 ∷ [])) ∷ []
+      ≡ (key_of 5 6 0, cells (bucket 10 1 ∷ [])) ∷ (key_of 5 6 1, cells (bucket 20 1 ∷ []))
+      ∷ (key_of 5 6 2, cells (bucket 30 1 ∷ [])) ∷ []
   pub counts : map (λ s. known_of s 6 kept) (5 ∷ 6 ∷ []) ≡ 3 ∷ 0 ∷ []
   pub epochs : map (λ e. known_of 5 e kept) (6 ∷ 5 ∷ []) ≡ 3 ∷ 0 ∷ []
   -- the new ones in their order, and none where all are known

@@ -1,6 +1,6 @@
 -- Which lists of carried columns are allowed, and which not, by cases.
-use Rattle.std.specs.Prelude.{List, [], ◌∷◌}
-use Rattle.lg_model.specs.declared.scenario.Fate.TheVariants.{Straight, Lost}
+use Rattle.std.specs.Prelude.{[], ◌∷◌}
+use Rattle.lg_model.specs.declared.scenario.Fate.TheVariants.{Straight}
 use Rattle.lg_model.specs.declared.scenario.Pick.TheVariants.{Turns}
 use Rattle.lg_model.specs.declared.scenario.Step.TheVariants.{EndAll}
 use Rattle.lg_model.specs.Scenario.{Scenario}

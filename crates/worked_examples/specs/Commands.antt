@@ -1,7 +1,8 @@
 -- Which command the words are, by computation.
 use Rattle.std.specs.Prelude.{◌≡◌, ℕ, List, [], ◌∷◌, map, replicate, Option, Some, None, codes}
 use Rattle.guardian_words.specs.declared.commands.Command.{Command}
-use Rattle.guardian_words.specs.declared.commands.Command.TheVariants.{Run, Demo, Ask, List as ListAll, Rebuild, Capture, Make}
+use Rattle.guardian_words.specs.declared.commands.Command.TheVariants.{Run, Demo, Ask, List as ListAll, Rebuild}
+use Rattle.guardian_words.specs.declared.commands.Command.TheVariants.{Capture, Make}
 use Rattle.guardian_words.specs.Words.{command_of}
 
 abbrev pub one : List ℕ → List (List ℕ)
@@ -19,7 +20,8 @@ no_command = None
 pub record WorkedCommands : Type 0 where
   pub lone : map command_of (one (codes "run") ∷ one (codes "ask") ∷ one (codes "list") ∷ one (codes "capture") ∷ [])
       ≡ Some Run ∷ Some Ask ∷ Some ListAll ∷ Some Capture ∷ []
-  pub made : map command_of (two (codes "make") (codes "1") ∷ two (codes "make") (codes "1000") ∷ two (codes "demo") (codes "7") ∷ [])
+  pub made : map command_of (two (codes "make") (codes "1") ∷ two (codes "make") (codes "1000")
+      ∷ two (codes "demo") (codes "7") ∷ [])
       ≡ Some (Make 1) ∷ Some (Make 1000) ∷ Some (Demo 7) ∷ []
   -- the switch before the epoch, each up to its last number
   pub rebuilt : map command_of (rebuild (codes "3") (codes "0") ∷ rebuild (codes "65535") (codes "4294967295") ∷ [])

@@ -1,7 +1,6 @@
 -- Contents: what is known, in which order, and what is joined, by computation.
-use Rattle.std.specs.Prelude.{◌≡◌, ℕ, List, [], ◌∷◌, map, true, false, Some, None}
+use Rattle.std.specs.Prelude.{◌≡◌, ℕ, [], ◌∷◌, map, true, false, Some, None}
 use Rattle.std.specs.Ordering.{is_lt}
-use Rattle.lg_model.specs.declared.column.Key.{Key}
 use Rattle.lg_model.specs.Columns.{Cells, Column}
 use Rattle.lg_model.specs.Answer.{Content, key_cmp, content_of, found}
 use Rattle.lg_model.specs.Joining.{AreJoinable, join}
@@ -24,9 +23,11 @@ pub record WorkedContents : Type 0 where
       ≡ true ∷ true ∷ true ∷ false ∷ false ∷ false ∷ false ∷ []
   -- in the order of the keys; of columns with one key the last one counts
   pub content : content_of (col 2 0 0 5 ∷ col 1 1 0 6 ∷ col 1 0 1 7 ∷ col 1 0 1 8 ∷ []) ≡ some
-  pub looked_up : map (found some) (key_of 1 0 1 ∷ key_of 2 0 0 ∷ key_of 0 0 1 ∷ key_of 1 1 1 ∷ []) ≡ Some (one 8) ∷ Some (one 5) ∷ None ∷ None ∷ []
+  pub looked_up : map (found some) (key_of 1 0 1 ∷ key_of 2 0 0 ∷ key_of 0 0 1 ∷ key_of 1 1 1 ∷ [])
+      ≡ Some (one 8) ∷ Some (one 5) ∷ None ∷ None ∷ []
   -- the pairs of both, in order
   pub joined : join some ((key_of 0 7 7, one 1) ∷ (key_of 1 0 1, one 8) ∷ (key_of 1 0 2, one 2) ∷ [])
-      ≡ (key_of 0 7 7, one 1) ∷ (key_of 1 0 1, one 8) ∷ (key_of 1 0 2, one 2) ∷ (key_of 1 1 0, one 6) ∷ (key_of 2 0 0, one 5) ∷ []
+      ≡ (key_of 0 7 7, one 1) ∷ (key_of 1 0 1, one 8) ∷ (key_of 1 0 2, one 2) ∷ (key_of 1 1 0, one 6)
+      ∷ (key_of 2 0 0, one 5) ∷ []
   -- other counters under a key of both
   pub apart : AreJoinable some ((key_of 1 1 0, one 7) ∷ []) → ⊥

@@ -1,6 +1,5 @@
 -- A disk: what a read gives after some calls, and what a crash may leave, by computation and by cases.
-use Rattle.std.specs.Prelude.{◌≡◌, ℕ, List, [], ◌∷◌}
-use Rattle.lg_disk.specs.declared.call.Call.{Call}
+use Rattle.std.specs.Prelude.{◌≡◌, [], ◌∷◌}
 use Rattle.lg_disk.specs.declared.call.Call.TheVariants.{Nothing, Write, Cut, Sync}
 use Rattle.lg_disk.specs.Disk.{with_bytes, Torn, Shorter}
 use Rattle.lg_disk.specs.Model.{State, start, run, IsImage}
@@ -12,7 +11,13 @@ changed = run (start (1 ∷ 2 ∷ 3 ∷ [])) (Write 2 (7 ∷ 8 ∷ []) ∷ Cut 2
 pub record WorkedDisks : Type 0 where
   pub over : with_bytes (1 ∷ 2 ∷ 3 ∷ 4 ∷ []) 1 (8 ∷ 9 ∷ []) ≡ 1 ∷ 8 ∷ 9 ∷ 4 ∷ []
   pub past : with_bytes (1 ∷ 2 ∷ []) 1 (8 ∷ 9 ∷ []) ≡ 1 ∷ 8 ∷ 9 ∷ []
-  pub after : changed ≡ record { seen = 1 ∷ 2 ∷ 9 ∷ []; synced = 1 ∷ 2 ∷ 3 ∷ []; written = (2, 2) ∷ (2, 1) ∷ []; least = 2; greatest = 4 }
+  pub after : changed ≡ record {
+    seen = 1 ∷ 2 ∷ 9 ∷ [];
+    synced = 1 ∷ 2 ∷ 3 ∷ [];
+    written = (2, 2) ∷ (2, 1) ∷ [];
+    least = 2;
+    greatest = 4;
+  }
   -- a write past the end changes nothing, nor does a cut past it; a sync makes all certain
   pub no_hole : run (start (1 ∷ [])) (Write 2 (7 ∷ []) ∷ Cut 5 ∷ Nothing ∷ []) ≡ start (1 ∷ [])
   pub synced : run changed (Sync ∷ []) ≡ start (1 ∷ 2 ∷ 9 ∷ [])

@@ -1,14 +1,11 @@
 -- Files of a book: what they stand for, and which fault they have, by computation and by cases.
-use Rattle.std.specs.Prelude.{◌≡◌, ℕ, ◌<◌, List, [], ◌∷◌, ◌++◌, length, replicate, take, None, Some, Ok, Err}
+use Rattle.std.specs.Prelude.{◌≡◌, ℕ, List, [], ◌∷◌, ◌++◌, replicate}
 use Rattle.std.specs.List.{range_with_len}
-use Rattle.lg_model.specs.declared.scenario.Hash.TheVariants.{Ports, Seed}
-use Rattle.lg_model.specs.Columns.{Column, dims_of}
+use Rattle.lg_model.specs.declared.scenario.Hash.TheVariants.{Seed}
+use Rattle.lg_model.specs.Columns.{dims_of}
 use Rattle.lg_model.specs.Placing.{Shape}
 use Rattle.sketchlet_wire.specs.Uploads.{UploadData, upload_of}
-use Rattle.sketchlet_wire.specs.Worked.{worked, worked_spelling}
-use Rattle.book_file.specs.declared.found.OpenFault.TheVariants.{NotAJournal, WrongShape, Damaged, Full}
-use Rattle.book_file.specs.File.{header, body, body_len, front, record_bytes, IsBlank, IsRecord, AreRecords, IsClosed}
-use Rattle.book_file.specs.Found.{HasHeader, Overfills, Breaks, Ends}
+use Rattle.book_file.specs.File.{header, body, body_len, front, IsBlank, IsRecord, AreRecords, IsClosed}
 use Rattle.worked_examples.specs.Networks.{odd}
 
 abbrev pub shape : Shape
@@ -31,7 +28,8 @@ pub record WorkedBookFiles : Type 0 where
   pub body_bytes : body one ≡ a_body
   -- every record after an open gate, in order
   pub front_bytes : front shape (one ∷ upload_of 9 1 (odd ∷ odd ∷ []) ∷ [])
-      ≡ head ++ (1 ∷ (a_body ++ 1 ∷ 0 ∷ 9 ∷ 0 ∷ 0 ∷ 0 ∷ 1 ∷ 2 ∷ (range_with_len 1 8 ++ (range_with_len 11 12 ++ (range_with_len 1 8 ++ range_with_len 11 12)))))
+      ≡ head ++ (1 ∷ (a_body ++ 1 ∷ 0 ∷ 9 ∷ 0 ∷ 0 ∷ 0 ∷ 1 ∷ 2
+      ∷ (range_with_len 1 8 ++ (range_with_len 11 12 ++ (range_with_len 1 8 ++ range_with_len 11 12)))))
   pub body_length : body_len 8 16 ≡ 903
   pub least_body : body_len 1 1 ≡ 21
   -- 1 alone is an open gate

@@ -1,5 +1,5 @@
 -- What a run leaves and keeps, and what a book tells, by computation and by cases.
-use Rattle.std.specs.Prelude.{◌≡◌, ℕ, List, [], ◌∷◌, map, length, Bool, true, false, Ok}
+use Rattle.std.specs.Prelude.{◌≡◌, ℕ, List, [], ◌∷◌, map, true, false, Ok}
 use Rattle.lg_model.specs.declared.scenario.Hash.TheVariants.{Ports}
 use Rattle.lg_model.specs.declared.scenario.Letter.TheVariants as letter
 use Rattle.lg_model.specs.Placing.{Shape}
@@ -37,6 +37,9 @@ none h q = false
 abbrev pub worker : List SeqState → Worker
 worker states = record { view = new_pass 2 doing.Idle [] 0; states = states; result = Ok tt }
 
+abbrev pub two_workers : List Worker
+two_workers = worker (Acknowledged ∷ Idle ∷ []) ∷ worker (Refused ∷ Acknowledged ∷ []) ∷ []
+
 -- No file, and the files of one list alone.
 abbrev pub no_file : Files
 no_file c = ⊥
@@ -66,7 +69,7 @@ pub record WorkedKeeping : Type 0 where
   pub acked_and_gone : AreAcked to_two [] [] all → ⊥
   pub kept_unacked : AreAcked to_two [] (first_host ∷ []) none → ⊥
   pub reply_lost : KeepsReplies (letter.Deliver ∷ letter.LoseReply ∷ []) → ⊥
-  pub acks : map (λ (p : ℕ × ℕ). acks_of (worker (Acknowledged ∷ Idle ∷ []) ∷ worker (Refused ∷ Acknowledged ∷ []) ∷ []) p.0 p.1)
+  pub acks : map (λ (p : ℕ × ℕ). acks_of two_workers p.0 p.1)
       ((0, 0) ∷ (0, 1) ∷ (1, 0) ∷ (1, 1) ∷ (1, 2) ∷ (2, 0) ∷ []) ≡ true ∷ false ∷ false ∷ true ∷ false ∷ false ∷ []
   -- at most one record more than what is kept, which begins with what was found
   pub two_more : IsLeft (of_list []) delivered to_two [] no_file no_file no_file [] (second_host ∷ first_host ∷ []) → ⊥

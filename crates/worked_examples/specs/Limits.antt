@@ -1,10 +1,13 @@
 -- The limits: a scenario at most of them, and what is past each, by computation and by cases.
-use Rattle.std.specs.Prelude.{◌≡◌, ℕ, ◌^◌, List, [], ◌∷◌, replicate, true}
+use Rattle.std.specs.Prelude.{◌≡◌, ℕ, ◌^◌, List, [], ◌∷◌, replicate}
 use Rattle.std.specs.List.{range_with_len}
 use Rattle.flow_key.specs.KeyText.{IsAddress, Fits}
-use Rattle.lg_model.specs.declared.limits.TheConstants.{MOST_ROWS, MOST_WIDTH, LAST_BYTES, LAST_DELAY, MOST_TEXT_BYTES, MOST_HOSTS}
-use Rattle.lg_model.specs.declared.limits.TheConstants.{MOST_SWITCHES, MOST_FLOWS, MOST_HOPS, MOST_PACKETS, MOST_ENDS, MOST_ASKS}
-use Rattle.lg_model.specs.declared.limits.TheConstants.{MOST_LETTERS, MOST_SKETCHLET_BYTES, MOST_UPLOAD_COLUMNS, MOST_FRAME_BYTES}
+use Rattle.lg_model.specs.declared.limits.TheConstants.{MOST_ROWS, MOST_WIDTH, LAST_BYTES, LAST_DELAY, MOST_TEXT_BYTES}
+use Rattle.lg_model.specs.declared.limits.TheConstants.{MOST_HOSTS}
+use Rattle.lg_model.specs.declared.limits.TheConstants.{MOST_SWITCHES, MOST_FLOWS, MOST_HOPS, MOST_PACKETS, MOST_ENDS}
+use Rattle.lg_model.specs.declared.limits.TheConstants.{MOST_ASKS}
+use Rattle.lg_model.specs.declared.limits.TheConstants.{MOST_LETTERS, MOST_SKETCHLET_BYTES, MOST_UPLOAD_COLUMNS}
+use Rattle.lg_model.specs.declared.limits.TheConstants.{MOST_FRAME_BYTES}
 use Rattle.lg_model.specs.declared.limits.TheConstants.{MOST_OUTSTANDING, MOST_PASSES}
 use Rattle.lg_model.specs.declared.scenario.Fate.{Fate}
 use Rattle.lg_model.specs.declared.scenario.Fate.TheVariants.{Straight, Lost}
@@ -13,6 +16,8 @@ use Rattle.lg_model.specs.declared.scenario.Hash.TheVariants.{Ports, Seed}
 use Rattle.lg_model.specs.declared.scenario.Pick.TheVariants.{Turns, Chance}
 use Rattle.lg_model.specs.declared.scenario.Step.{Step}
 use Rattle.lg_model.specs.declared.scenario.Step.TheVariants.{Packet, End, EndAll}
+use Rattle.lg_model.specs.declared.column.Bucket.{Bucket}
+use Rattle.lg_model.specs.Columns.{Column}
 use Rattle.lg_model.specs.Placing.{IsShape}
 use Rattle.lg_model.specs.Scenario.{Scenario, IsScenario, IsFlow, IsStep}
 use Rattle.sketchlet_wire.specs.Spelling.{IsColumn, FitsBucket, FitsKey}
@@ -40,12 +45,16 @@ greatest = record {
   asks = ask 0 0 0 ∷ [];
 }
 
+-- A column of one row and four buckets.
+abbrev pub column : (index : ℕ) → List Bucket → Column
+column j bs = record { key = key_of 1 1 j; dims = record { rows = 1; width = 4 }; cells = cells bs }
+
 pub record WorkedLimits : Type 0 where
-  pub constants : MOST_ROWS ∷ MOST_WIDTH ∷ MOST_HOSTS ∷ MOST_SWITCHES ∷ MOST_FLOWS ∷ MOST_HOPS ∷ MOST_PACKETS ∷ MOST_ENDS ∷ MOST_ASKS
-      ∷ MOST_LETTERS ∷ MOST_TEXT_BYTES ∷ []
+  pub constants : MOST_ROWS ∷ MOST_WIDTH ∷ MOST_HOSTS ∷ MOST_SWITCHES ∷ MOST_FLOWS ∷ MOST_HOPS ∷ MOST_PACKETS
+      ∷ MOST_ENDS ∷ MOST_ASKS ∷ MOST_LETTERS ∷ MOST_TEXT_BYTES ∷ []
       ≡ 8 ∷ 4096 ∷ 64 ∷ 64 ∷ 4096 ∷ 16 ∷ 1000000 ∷ 65535 ∷ 10000 ∷ 4096 ∷ 16777216 ∷ []
-  pub other_constants : LAST_BYTES ∷ LAST_DELAY ∷ MOST_SKETCHLET_BYTES ∷ MOST_UPLOAD_COLUMNS ∷ MOST_FRAME_BYTES ∷ MOST_OUTSTANDING
-      ∷ MOST_PASSES ∷ ROOM ∷ []
+  pub other_constants : LAST_BYTES ∷ LAST_DELAY ∷ MOST_SKETCHLET_BYTES ∷ MOST_UPLOAD_COLUMNS ∷ MOST_FRAME_BYTES
+      ∷ MOST_OUTSTANDING ∷ MOST_PASSES ∷ ROOM ∷ []
       ≡ 4294967295 ∷ 65535 ∷ 62 ∷ 16 ∷ 1000 ∷ 8 ∷ 65 ∷ 262144 ∷ []
   pub at_them : IsScenario greatest
   -- one past each
@@ -85,5 +94,5 @@ pub record WorkedLimits : Type 0 where
   pub sum : FitsBucket (bucket 4294967296 0) → ⊥
   pub maximum : FitsBucket (bucket 0 65536) → ⊥
   pub switch : FitsKey (key_of 65536 0 0) → ⊥
-  pub index : IsColumn (record { key = key_of 1 1 4; dims = record { rows = 1; width = 4 }; cells = cells (bucket 1 1 ∷ []) }) → ⊥
-  pub rows : IsColumn (record { key = key_of 1 1 3; dims = record { rows = 1; width = 4 }; cells = cells [] }) → ⊥
+  pub index : IsColumn (column 4 (bucket 1 1 ∷ [])) → ⊥
+  pub rows : IsColumn (column 3 []) → ⊥

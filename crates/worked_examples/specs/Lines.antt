@@ -1,20 +1,18 @@
 -- Lines of output and of faults, letter by letter, by computation.
 use Rattle.std.specs.Prelude.{◌≡◌, ℕ, List, [], ◌∷◌, ◌++◌, map, codes}
 use Rattle.std.specs.List.{flat_map}
-use Rattle.lg_model.specs.declared.answer.Answer.{Answer}
-use Rattle.lg_model.specs.declared.answer.Value.TheVariants.{Unknown, AtMost, Saturated}
 use Rattle.lg_model.specs.declared.column.Bucket.{Bucket}
 use Rattle.lg_model.specs.declared.scenario.Hash.TheVariants.{Ports, Seed}
 use Rattle.lg_model.specs.Columns.{Column}
 use Rattle.sumax_sketch.specs.SketchState.{SketchState}
 use Rattle.scenario_lines.specs.declared.why.Why.TheVariants as whys
 use Rattle.scenario_lines.specs.Whys.{why_text}
-use Rattle.report_text.specs.declared.summary.Summary.{Summary}
-use Rattle.report_text.specs.Report.{answer_line, report}
+use Rattle.report_text.specs.Report.{report}
 use Rattle.report_text.specs.Columns.{column_line, rebuilt_line, row_line, acked_line}
 use Rattle.report_text.specs.Capture.{hex_line, sketchlets_line}
 use Rattle.report_text.specs.Summary.{summary_lines}
-use Rattle.report_text.specs.Faults.{usage_line, read_fault_line, no_memory_line, disk_fault_line, not_a_journal_line, blank_line}
+use Rattle.report_text.specs.Faults.{usage_line, read_fault_line, no_memory_line, disk_fault_line, not_a_journal_line}
+use Rattle.report_text.specs.Faults.{blank_line}
 use Rattle.report_text.specs.Faults.{shape_line, damaged_line, missing_line, scenario_line, full_line, conflict_line}
 use Rattle.worked_examples.specs.Networks.{bucket, key_of, cells}
 use Rattle.worked_examples.specs.Answers.{some, asked}
@@ -47,7 +45,8 @@ pub record WorkedLines : Type 0 where
       ∷ codes "columns 4" ∷ [])
   pub column_text : column_line (column (bucket 1 2) (bucket 30 40)) ≡ text (codes "column 11 3 4 1 2 30 40" ∷ [])
   pub rebuilt : rebuilt_line 11 3 2 9 ≡ text (codes "rebuilt switch 11 epoch 3 rows 2 width 9" ∷ [])
-  pub rows : flat_map (row_line sketch) (0 ∷ 1 ∷ []) ≡ text (codes "row 0 1 2 3 4 5 6" ∷ codes "row 1 7 8 9 10 11 12" ∷ [])
+  pub rows : flat_map (row_line sketch) (0 ∷ 1 ∷ [])
+      ≡ text (codes "row 0 1 2 3 4 5 6" ∷ codes "row 1 7 8 9 10 11 12" ∷ [])
   pub acked : acked_line 21 7 ≡ text (codes "acked 21 7" ∷ [])
   pub hex : hex_line 21 (1 ∷ 171 ∷ 0 ∷ 254 ∷ []) ≡ text (codes "host 21 01ab00fe" ∷ [])
   pub sketchlets : sketchlets_line 3 ≡ text (codes "sketchlets 3" ∷ [])
@@ -62,11 +61,13 @@ pub record WorkedLines : Type 0 where
   pub damaged : damaged_line 45 ≡ text (codes "guardian: damaged at 45" ∷ [])
   pub missing : missing_line 11 3 1 2 ≡ text (codes "guardian: rebuild: switch 11 epoch 3 has 1 of 2 columns" ∷ [])
   pub scenario : scenario_line (12, whys.BadKey) ≡ text (codes "guardian: scenario line 12: bad key" ∷ [])
-  pub plain : usage_line ++ (read_fault_line ++ (no_memory_line ++ (disk_fault_line ++ (not_a_journal_line ++ blank_line)))) ≡ text (
+  pub plain : flat_map (λ l. l) (usage_line ∷ read_fault_line ∷ no_memory_line ∷ disk_fault_line ∷ not_a_journal_line
+      ∷ blank_line ∷ []) ≡ text (
       codes "guardian: usage: guardian run, ask, list, rebuild S E, capture, make N, demo N"
       ∷ codes "guardian: read fault" ∷ codes "guardian: no memory" ∷ codes "guardian: disk fault"
       ∷ codes "guardian: not a journal" ∷ codes "guardian: rebuild: the book is blank" ∷ [])
-  pub why_texts : map why_text (whys.Version ∷ whys.OutOfPlace ∷ whys.UnknownWord ∷ whys.WordCount ∷ whys.BadNumber ∷ whys.Repeated
+  pub why_texts : map why_text (whys.Version ∷ whys.OutOfPlace ∷ whys.UnknownWord ∷ whys.WordCount ∷ whys.BadNumber
+      ∷ whys.Repeated
       ∷ whys.UnknownName ∷ whys.BadPath ∷ whys.BadWord ∷ whys.BadLetters ∷ whys.TooMany ∷ whys.NoDone ∷ whys.TooLong ∷ [])
       ≡ codes "not guardian 1" ∷ codes "out of place" ∷ codes "unknown word" ∷ codes "word count" ∷ codes "bad number"
       ∷ codes "repeated" ∷ codes "unknown name" ∷ codes "bad path" ∷ codes "bad word" ∷ codes "bad letters"

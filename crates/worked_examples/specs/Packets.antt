@@ -4,14 +4,16 @@ use Rattle.std.specs.List.{range_with_len}
 use Rattle.lg_model.specs.declared.scenario.Fate.TheVariants.{Straight, Lost, Twice}
 use Rattle.lg_model.specs.declared.scenario.Pick.TheVariants.{Turns}
 use Rattle.lg_model.specs.declared.scenario.Step.TheVariants.{End, EndAll, Release}
-use Rattle.lg_model.specs.Scenario.{Scenario, flow_at, ended, packet_count}
-use Rattle.lg_model.specs.Trace.{Packet, Meeting, Observation, packets, reach, meetings, ended_before, seen, sum_of, most_of}
+use Rattle.lg_model.specs.Scenario.{Scenario, ended, packet_count}
+use Rattle.lg_model.specs.Trace.{Packet, Meeting, Observation, packets, reach, meetings, ended_before, seen, sum_of}
+use Rattle.lg_model.specs.Trace.{most_of}
 use Rattle.worked_examples.specs.Networks.{ports, network, both, second}
 
 -- Two packets that go all the way, one that is lost after its first hop, and one that comes twice; the first switch
 -- ends two epochs, the second one.
 abbrev pub traffic : Scenario
-traffic = network Turns 2 (both 100 5 6 2 Straight ∷ End 0 ∷ both 200 7 8 1 (Lost 1) ∷ Release ∷ EndAll ∷ second 50 9 1 Twice ∷ []) []
+traffic = network Turns 2 (both 100 5 6 2 Straight ∷ End 0 ∷ both 200 7 8 1 (Lost 1) ∷ Release ∷ EndAll
+    ∷ second 50 9 1 Twice ∷ []) []
 
 abbrev pub words : Meeting → List ℕ
 words m = m.number ∷ m.step_at ∷ m.hop ∷ m.hops ∷ m.switch_at ∷ m.size ∷ m.delay ∷ []
@@ -42,7 +44,8 @@ pub record WorkedPackets : Type 0 where
   -- each switch sees its own, epoch by epoch
   pub first_saw : map (seen traffic 0) (range_with_len 0 3)
       ≡ (saw 2 1 100 5 ∷ saw 2 1 100 5 ∷ []) ∷ (saw 2 1 200 7 ∷ []) ∷ [] ∷ []
-  pub second_saw : map (seen traffic 1) (range_with_len 0 2) ≡ (saw 2 1 100 6 ∷ saw 2 1 100 6 ∷ []) ∷ (saw 3 2 50 9 ∷ []) ∷ []
+  pub second_saw : map (seen traffic 1) (range_with_len 0 2)
+      ≡ (saw 2 1 100 6 ∷ saw 2 1 100 6 ∷ []) ∷ (saw 3 2 50 9 ∷ []) ∷ []
   -- of one flow, and not of all
   pub sums : map (sum_of three) (ports 2 1 ∷ ports 3 2 ∷ ports 7 7 ∷ []) ≡ 150 ∷ 9 ∷ 0 ∷ []
   pub maxima : map (most_of three) (ports 2 1 ∷ ports 3 2 ∷ ports 7 7 ∷ []) ≡ 5 ∷ 90 ∷ 0 ∷ []

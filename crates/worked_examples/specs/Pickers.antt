@@ -1,15 +1,15 @@
 -- Which packets carry which columns, by computation. The random words and what is chosen by them come from a program of
 -- its own, in another language.
-use Rattle.std.specs.Prelude.{◌≡◌, ℕ, List, [], ◌∷◌, ◌++◌, map, replicate, Some, None}
+use Rattle.std.specs.Prelude.{◌≡◌, ℕ, [], ◌∷◌, ◌++◌, map, replicate, Some, None}
 use Rattle.std.specs.List.{range_with_len}
 use Rattle.lg_model.specs.declared.scenario.Fate.TheVariants.{Straight, Lost}
 use Rattle.lg_model.specs.declared.scenario.Pick.{Pick}
 use Rattle.lg_model.specs.declared.scenario.Pick.TheVariants.{Turns, Chance}
-use Rattle.lg_model.specs.declared.scenario.Step.{Step}
 use Rattle.lg_model.specs.declared.scenario.Step.TheVariants.{End, EndAll}
 use Rattle.lg_model.specs.Scenario.{Scenario}
 use Rattle.lg_model.specs.Trace.{meetings}
-use Rattle.lg_model.specs.Carrying.{Carry, Offer, hops_left, times_of, turns_answer, chance_seed, word_of, candidate, chance_answer, chosen, picked}
+use Rattle.lg_model.specs.Carrying.{Carry, Offer, hops_left, times_of, turns_answer, chance_seed, word_of, candidate}
+use Rattle.lg_model.specs.Carrying.{chance_answer, chosen, picked}
 use Rattle.worked_examples.specs.Networks.{network, both, second}
 
 -- Three indexes, the first two put out once and the third never.
@@ -22,7 +22,8 @@ entry p h s e j = record { packet = p; hop = h; switch_at = s; epoch = e; index 
 -- Five packets by both switches, with an end of all epochs before them and one after the third; a lost packet, which
 -- carries all the same; and a packet of the second switch alone.
 abbrev pub busy : Pick → Scenario
-busy pick = network pick 2 (EndAll ∷ both 100 5 5 3 Straight ∷ EndAll ∷ both 100 5 5 1 (Lost 1) ∷ both 100 5 5 1 Straight ∷ second 7 7 1 Straight ∷ []) []
+busy pick = network pick 2 (EndAll ∷ both 100 5 5 3 Straight ∷ EndAll ∷ both 100 5 5 1 (Lost 1)
+    ∷ both 100 5 5 1 Straight ∷ second 7 7 1 Straight ∷ []) []
 
 -- Only the second switch has ended an epoch.
 abbrev pub one_ended : Scenario

@@ -43,16 +43,20 @@ pub record WorkedUploads : Type 0 where
   pub column_bytes : spelling odd ≡ 76 ∷ 71 ∷ 1 ∷ 2 ∷ 9 ∷ 10 ∷ (range_with_len 1 8 ++ range_with_len 11 12)
   pub key_bytes : column_key_bytes odd.key ≡ 1 ∷ 2 ∷ 3 ∷ 4 ∷ 5 ∷ 6 ∷ 7 ∷ 8 ∷ []
   pub bucket_bytes : cells_bytes odd.cells ≡ range_with_len 11 12
-  pub seeded_shape : shape_bytes (record { rows = 8; width = 2314; hash = Seed 796025588171149586 }) ≡ 8 ∷ 9 ∷ 10 ∷ 1 ∷ range_with_len 11 8
-  pub port_shape : shape_bytes (record { rows = 8; width = 2314; hash = Ports }) ≡ 8 ∷ 9 ∷ 10 ∷ 0 ∷ 0 ∷ 0 ∷ 0 ∷ 0 ∷ 0 ∷ 0 ∷ 0 ∷ 0 ∷ []
+  pub seeded_shape : shape_bytes (record { rows = 8; width = 2314; hash = Seed 796025588171149586 })
+      ≡ 8 ∷ 9 ∷ 10 ∷ 1 ∷ range_with_len 11 8
+  pub port_shape : shape_bytes (record { rows = 8; width = 2314; hash = Ports })
+      ≡ 8 ∷ 9 ∷ 10 ∷ 0 ∷ 0 ∷ 0 ∷ 0 ∷ 0 ∷ 0 ∷ 0 ∷ 0 ∷ 0 ∷ []
   -- 16 are one upload, 17 are two
   pub sixteen : counts (cut (cols (range_with_len 0 16))) ≡ 16 ∷ []
   pub seventeen : counts (cut (cols (range_with_len 0 17))) ≡ 16 ∷ 1 ∷ []
   -- a key that is there begins the next one; later columns don't go back to an earlier one
-  pub repeated : cut (cols (1 ∷ 2 ∷ 1 ∷ 3 ∷ 2 ∷ 3 ∷ 4 ∷ [])) ≡ cols (1 ∷ 2 ∷ []) ∷ cols (1 ∷ 3 ∷ 2 ∷ []) ∷ cols (3 ∷ 4 ∷ []) ∷ []
+  pub repeated : cut (cols (1 ∷ 2 ∷ 1 ∷ 3 ∷ 2 ∷ 3 ∷ 4 ∷ []))
+      ≡ cols (1 ∷ 2 ∷ []) ∷ cols (1 ∷ 3 ∷ 2 ∷ []) ∷ cols (3 ∷ 4 ∷ []) ∷ []
   pub none : cut [] ≡ []
   pub joins : map (can_join (cols (1 ∷ 2 ∷ []))) (cols (1 ∷ 2 ∷ 3 ∷ [])) ≡ false ∷ false ∷ true ∷ []
-  pub numbers : numbered 7 (cols (1 ∷ 2 ∷ []) ∷ cols (1 ∷ []) ∷ []) ≡ upload_of 7 0 (cols (1 ∷ 2 ∷ [])) ∷ upload_of 7 1 (cols (1 ∷ [])) ∷ []
+  pub numbers : numbered 7 (cols (1 ∷ 2 ∷ []) ∷ cols (1 ∷ []) ∷ [])
+      ≡ upload_of 7 0 (cols (1 ∷ 2 ∷ [])) ∷ upload_of 7 1 (cols (1 ∷ [])) ∷ []
   pub twice : map (is_twice (cols (1 ∷ 2 ∷ 1 ∷ []))) (range_with_len 0 3) ≡ false ∷ false ∷ true ∷ []
   -- no columns, 17 columns, and a key twice are no upload
   pub not_none : IsUpload [] → ⊥

@@ -1,6 +1,7 @@
 use Rattle.link_deliveries.specs.Deliveries.{brought_in_all}
 use Rattle.std.proofs.Common.{arith}
-use Rattle.worked_examples.proofs.Kept.{either_first, other_host, other_number, joined, one_lacks, acked_and_gone, kept_unacked, found_gone, not_less, not_more, swapped}
+use Rattle.worked_examples.proofs.Kept.{either_first, other_host, other_number, joined, one_lacks, acked_and_gone}
+use Rattle.worked_examples.proofs.Kept.{kept_unacked, found_gone, not_less, not_more, swapped}
 use Rattle.worked_examples.specs.Arrivals.{twelve}
 use Rattle.lg_model.specs.declared.scenario.Letter.TheVariants as letter
 use Rattle.std.proofs.Common.{refl}

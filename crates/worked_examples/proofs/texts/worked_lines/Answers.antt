@@ -9,7 +9,9 @@ use Rattle.std.proofs.Common.{refl}
 use Rattle.worked_examples.proofs.texts.worked_lines.Goals as goal
 
 pub returns : goal.returns
-unfolding digits answer_line columns_line column_line rebuilt_line row_line acked_line hex_line sketchlets_line encode_with demo_line packets_line arrived_line asks_line shape_line damaged_line missing_line scenario_line full_line conflict_line
+unfolding digits answer_line columns_line column_line rebuilt_line row_line acked_line hex_line sketchlets_line
+    encode_with demo_line packets_line arrived_line asks_line shape_line damaged_line missing_line scenario_line
+    full_line conflict_line
 returns c = record {
   report_text = refl;
   column_text = refl;
