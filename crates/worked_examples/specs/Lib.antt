@@ -18,3 +18,4 @@ pub mod Links
 pub mod Limits
 pub mod Carrying
 pub mod Keeping
+pub mod Worlds

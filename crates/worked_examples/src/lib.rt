@@ -14,7 +14,7 @@
 //! | [`worked_uploads`] | the bytes of columns, what comes to the hosts cut into uploads, a booking |
 //! | [`worked_applying`] | what an upload does to the entries of a book |
 //! | [`worked_book_files`], [`worked_disks`] | the bytes of a book's file; a disk, and what a crash may leave |
-//! | [`worked_links`] | states of uploads, replies, what a link brings |
+//! | [`worked_links`], [`worked_worlds`] | states of uploads, replies, what a link brings; events of the world |
 //! | [`worked_keeping`] | lists that a run may leave, and others; what is kept and acknowledged |
 //! | [`worked_readings`], [`worked_generators`] | texts that are read; generated scenarios |
 //! | [`worked_lines`], [`worked_commands`] | lines of output and of faults; words that are a command |

@@ -1,9 +1,10 @@
-//! Worked examples of uploads, of what they do to a book, of its file and a disk, and of links.
+//! Worked examples of uploads, of what they do to a book, of its file and a disk, of links and of the world.
 ghost use Rattle.worked_examples.specs.Applying.{WorkedApplying};
 ghost use Rattle.worked_examples.specs.Disks.{WorkedDisks};
 ghost use Rattle.worked_examples.specs.Files.{WorkedBookFiles};
 ghost use Rattle.worked_examples.specs.Links.{WorkedLinks};
 ghost use Rattle.worked_examples.specs.Uploads.{WorkedUploads};
+ghost use Rattle.worked_examples.specs.Worlds.{WorkedWorlds};
 
 /// The bytes of columns and shapes, and what comes to the hosts cut into uploads.
 pub fn worked_uploads()
@@ -28,4 +29,9 @@ pub fn worked_disks()
 /// The states of a host's uploads, the replies to them, and what a link brings.
 pub fn worked_links()
     ensures { WorkedLinks }
+{}
+
+/// Events of the world, one after the other, and counts of faults.
+pub fn worked_worlds()
+    ensures { WorkedWorlds }
 {}
