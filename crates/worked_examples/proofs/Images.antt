@@ -3,7 +3,7 @@ use Rattle.std.specs.Prelude.{◌≡◌, ℕ, zero, suc, ◌<◌, List, [], ◌�
 use Rattle.std.proofs.Common.{ap, refl, arith}
 use Rattle.lg_disk.specs.Disk.{Torn, Shorter}
 use Rattle.lg_disk.specs.Model.{start, IsImage, IsWritten}
-use Rattle.worked_examples.specs.Disks.{changed}
+use Rattle.worked_examples.specs.Disks.{changed, first_changed}
 
 abbrev two : List ℕ
 two = 1 ∷ 2 ∷ []
@@ -39,6 +39,16 @@ second_kept (suc (suc k), r, low, is, both) = omega (arith, low)
 
 pub not_outside : IsImage changed (1 ∷ 5 ∷ 7 ∷ []) → ⊥
 not_outside h = let n : 5 ≡ 2 = h.outside 1 (omega arith) (omega arith) second_kept in omega (arith, n)
+
+-- The range is the first byte alone.
+next_kept : IsWritten first_changed.written 1 → ⊥
+next_kept (zero, r, low, is, (from, to)) =
+    let at : 0 ≡ r.0 = ap (λ (x : ℕ × ℕ). x.0) is in
+    let len : 1 ≡ r.1 = ap (λ (x : ℕ × ℕ). x.1) is in omega (arith, at, len, to)
+next_kept (suc k, r, low, is, both) = omega (arith, low)
+
+pub not_next : IsImage first_changed (7 ∷ 5 ∷ 3 ∷ []) → ⊥
+not_next h = let n : 5 ≡ 2 = h.outside 1 (omega arith) (omega arith) next_kept in omega (arith, n)
 
 none_written : (i : ℕ) → IsWritten [] i → ⊥
 none_written i (k, r, low, is, both) = omega (arith, low)

@@ -8,6 +8,10 @@ use Rattle.lg_disk.specs.Model.{State, start, run, IsImage}
 abbrev pub changed : State
 changed = run (start (1 ∷ 2 ∷ 3 ∷ [])) (Write 2 (7 ∷ 8 ∷ []) ∷ Cut 2 ∷ Write 2 (9 ∷ []) ∷ [])
 
+-- The first byte of three is written over.
+abbrev pub first_changed : State
+first_changed = run (start (1 ∷ 2 ∷ 3 ∷ [])) (Write 0 (7 ∷ []) ∷ [])
+
 pub record WorkedDisks : Type 0 where
   pub over : with_bytes (1 ∷ 2 ∷ 3 ∷ 4 ∷ []) 1 (8 ∷ 9 ∷ []) ≡ 1 ∷ 8 ∷ 9 ∷ 4 ∷ []
   pub past : with_bytes (1 ∷ 2 ∷ []) 1 (8 ∷ 9 ∷ []) ≡ 1 ∷ 8 ∷ 9 ∷ []
@@ -28,6 +32,7 @@ pub record WorkedDisks : Type 0 where
   pub not_shorter : IsImage changed (1 ∷ []) → ⊥
   pub not_longer : IsImage changed (1 ∷ 2 ∷ 7 ∷ 8 ∷ 9 ∷ []) → ⊥
   pub not_outside : IsImage changed (1 ∷ 5 ∷ 7 ∷ []) → ⊥
+  pub not_next : IsImage first_changed (7 ∷ 5 ∷ 3 ∷ []) → ⊥
   -- right after a sync there is one
   pub one_synced : IsImage (start (1 ∷ [])) (2 ∷ []) → ⊥
   -- a crash within a call: a write leaves no shorter a file, and nothing past its range; a cut no other bytes
