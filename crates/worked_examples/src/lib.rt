@@ -34,4 +34,6 @@ pub use network::{
 };
 pub use runs::worked_keeping;
 pub use texts::{worked_commands, worked_generators, worked_lines, worked_readings};
-pub use uploads::{worked_applying, worked_book_files, worked_disks, worked_links, worked_uploads};
+pub use uploads::{
+    worked_applying, worked_book_files, worked_disks, worked_links, worked_uploads, worked_worlds,
+};
