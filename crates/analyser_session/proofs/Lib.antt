@@ -7,3 +7,4 @@ pub mod Resting
 pub mod OneCourse
 pub mod Heard
 pub mod Serving
+pub mod Whole

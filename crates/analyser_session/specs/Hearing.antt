@@ -1,5 +1,5 @@
 -- What a session hears: the frames of its input, up to where it stops.
-use Rattle.std.specs.Prelude.{◌≡◌, ℕ, ◌+◌, ◌<◌, ◌≤◌, List, [], length, Option, None, Some, Result, Ok, Err}
+use Rattle.std.specs.Prelude.{◌≡◌, ◌⊎◌, ℕ, ◌+◌, ◌<◌, ◌≤◌, List, [], length, Option, None, Some, Result, Ok, Err}
 use Rattle.std.specs.Io.KnownBytes.{Consumes, IsAtEnd}
 use mathlib.Core.List.{IsPrefix}
 use Rattle.lg_model.specs.declared.limits.TheConstants.{MOST_FRAME_BYTES}
@@ -57,6 +57,12 @@ pub record HearsInput (input : List ℕ) (result : Result Served SessionFault) (
 abbrev pub HearsTold : Option (List ℕ) → Result Served SessionFault → List Frame → Type 0
 HearsTold None result fs = Unit {0}
 HearsTold (Some input) result fs = HearsInput input result fs
+
+-- A session ends as its input comes to, or memory ran out.
+abbrev pub EndsAsTold : Option (List ℕ) → Result Served SessionFault → Type 0
+EndsAsTold None result = Unit {0}
+EndsAsTold (Some input) result = (answer : Result Served SessionFault) (fs : List Frame) → ComesTo input answer fs
+    → (result ≡ answer) ⊎ (result ≡ Err faults.Memory)
 
 -- A session took these frames off the source, and what stands after them, or the outside, ended it. Of the bytes after
 -- them it took no more than a piece and a frame have.

@@ -272,3 +272,22 @@ fn the_outside_fails(rt: HostRuntime) -> Result<(), Fail> {
         )],
     )
 }
+
+// So many times these bytes.
+fn repeated(alloc: Global, bytes: &[u8], times: u32) -> Result<Vec<u8>, Fail> {
+    let mut all = Vec::new(alloc);
+    for _ in 0..times {
+        all.extend_from_slice(bytes)?;
+    }
+    Ok(all)
+}
+
+// A host that never says bye is answered 1,000,000 times.
+#[test]
+fn a_host_that_never_ends(rt: HostRuntime) -> Result<(), Fail> {
+    let alloc = rt.alloc();
+    let hellos = repeated(alloc, HELLO, 1_000_000)?;
+    let welcomes = repeated(alloc, WELCOME, 1_000_000)?;
+    let rows: [Row; 1] = [(&[&hellos], Err(SessionFault::TooMany), &[&welcomes])];
+    check(&rt, alloc, &QUIET, &rows)
+}

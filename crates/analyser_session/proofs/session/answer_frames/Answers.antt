@@ -1,7 +1,7 @@
 use Rattle.std.proofs.Common.{◌+◌, ◌∙◌, refl, sym, arith}
 use Rattle.std.proofs.lemmas.Result.{err_from_is_err_and}
 use Rattle.analyser_session.proofs.Serving.{going_start, going_more, exit_bye, exit_send, exit_answer, exit_next, exit_many, which_of}
-use Rattle.analyser_session.proofs.session.serve_session.Goals as goal
+use Rattle.analyser_session.proofs.session.answer_frames.Goals as goal
 
 pub loop-nth-init : goal.loop-nth-init
 loop-nth-init g c = record {

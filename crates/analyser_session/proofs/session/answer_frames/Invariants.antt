@@ -1,6 +1,6 @@
 use Rattle.std.proofs.Common.{◌≡◌, ◌+◌, ◌≤◌}
 use Rattle.analyser_session.proofs.Serving.{Going}
-use Rattle.analyser_session.proofs.session.serve_session.Given as goal
+use Rattle.analyser_session.proofs.session.answer_frames.Given as goal
 
 abbrev pub invariant-loop-nth : goal.invariant-loop-nth
 invariant-loop-nth g l = record {
