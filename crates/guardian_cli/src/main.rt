@@ -1,6 +1,9 @@
 //! The program `guardian`: the top call over the standard streams and the file `guardian.book`.
 #![tactic(auto)]
 
+#[cfg(test)]
+mod fault_tests;
+
 use guardian_run::guardian;
 use lg_base::{OpenGate, StdSink, StdSource};
 use lg_disk::FileDisk;
