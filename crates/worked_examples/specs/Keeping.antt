@@ -38,7 +38,7 @@ abbrev pub worker : List SeqState → Worker
 worker states = record { view = new_pass 2 doing.Idle [] 0; states = states; result = Ok tt }
 
 abbrev pub two_workers : List Worker
-two_workers = worker (Acknowledged ∷ Idle ∷ []) ∷ worker (Refused ∷ Acknowledged ∷ []) ∷ []
+two_workers = worker (Acknowledged ∷ Acknowledged ∷ Refused ∷ []) ∷ worker (Idle ∷ Acknowledged ∷ []) ∷ []
 
 -- No file, and the files of one list alone.
 abbrev pub no_file : Files
@@ -69,8 +69,9 @@ pub record WorkedKeeping : Type 0 where
   pub acked_and_gone : AreAcked to_two [] [] all → ⊥
   pub kept_unacked : AreAcked to_two [] (first_host ∷ []) none → ⊥
   pub reply_lost : KeepsReplies (letter.Deliver ∷ letter.LoseReply ∷ []) → ⊥
-  pub acks : map (λ (p : ℕ × ℕ). acks_of two_workers p.0 p.1)
-      ((0, 0) ∷ (0, 1) ∷ (1, 0) ∷ (1, 1) ∷ (1, 2) ∷ (2, 0) ∷ []) ≡ true ∷ false ∷ false ∷ true ∷ false ∷ false ∷ []
+  -- by host and then by number
+  pub acks : map (λ (p : ℕ × ℕ). acks_of two_workers p.0 p.1) ((0, 0) ∷ (0, 1) ∷ (0, 2) ∷ (1, 0) ∷ (1, 1) ∷ (2, 0) ∷ [])
+      ≡ true ∷ true ∷ false ∷ false ∷ true ∷ false ∷ []
   -- at most one record more than what is kept, which begins with what was found
   pub two_more : IsLeft (of_list []) delivered to_two [] no_file no_file no_file [] (second_host ∷ first_host ∷ []) → ⊥
   pub found_gone : IsLeft (of_list []) delivered to_two (first_host ∷ []) no_file no_file no_file [] (first_host ∷ []) → ⊥
