@@ -33,16 +33,13 @@ pub(crate) fn joined(alloc: Global, head: &str, rest: &str) -> Result<Vec<u8>, F
     Ok(text)
 }
 
-// The status and the output of these words, for an input in pieces of that size, where these reads and writes fail. The
-// book is blank.
+// The status and the output of these words, for an input in pieces of that size. The book is blank.
 fn told<R: Threads + Wait + Sync>(
     rt: &R,
     alloc: Global,
     words: &[&str],
     text: Vec<u8>,
     piece: usize,
-    reads: &[u32],
-    writes: &[u32],
 ) -> Result<(Status, Vec<u8>), Fail>
     requires { 0 < piece }
 {
@@ -50,8 +47,8 @@ fn told<R: Threads + Wait + Sync>(
     for word in words {
         asked.push(String::from_str(alloc, word)?)?;
     }
-    let mut source = MemorySource::new(text, piece, reads.to_vec(alloc)?);
-    let mut sink = MemorySink::new(alloc, piece, writes.to_vec(alloc)?);
+    let mut source = MemorySource::new(text, piece, Vec::new(alloc));
+    let mut sink = MemorySink::new(alloc, piece, Vec::new(alloc));
     let disk = MemoryDisk::new(alloc, Vec::new(alloc))?;
     let (status, _) = guardian(alloc, rt, &asked, &mut source, &mut sink, disk, &OpenGate);
     Ok((status, sink.bytes().to_vec(alloc)?))
@@ -173,8 +170,6 @@ fn reports(rt: HostRuntime) -> Result<(), Fail> {
                 &["run"],
                 joined(rt.alloc(), head, rest)?,
                 piece,
-                &[],
-                &[],
             )?;
             assert_eq!(rt;
                 (status, written.as_slice()),
@@ -196,8 +191,6 @@ fn a_switch_that_chooses_by_chance(rt: HostRuntime) -> Result<(), Fail> {
         &["run"],
         joined(rt.alloc(), text, "")?,
         4096,
-        &[],
-        &[],
     )?;
     assert_eq!(rt; status, Status::Ok);
     assert_eq!(rt;
@@ -225,8 +218,6 @@ fn sketchlets_at_the_hosts(rt: HostRuntime) -> Result<(), Fail> {
             &["capture"],
             joined(rt.alloc(), ONE, rest)?,
             7,
-            &[],
-            &[],
         )?;
         assert_eq!(rt;
             (status, written.as_slice()),
@@ -269,8 +260,6 @@ fn refused_texts(rt: HostRuntime) -> Result<(), Fail> {
                     &[word],
                     joined(rt.alloc(), text, "")?,
                     piece,
-                    &[],
-                    &[],
                 )?;
                 assert_eq!(rt;
                     (status, written.as_slice()),
@@ -304,15 +293,7 @@ fn words_that_are_no_command(rt: HostRuntime) -> Result<(), Fail> {
         &["make", "1", "2"],
         &["demo"],
     ] {
-        let (status, written) = told(
-            &rt,
-            alloc,
-            words,
-            joined(alloc, ONE, "done\n")?,
-            7,
-            &[],
-            &[],
-        )?;
+        let (status, written) = told(&rt, alloc, words, joined(alloc, ONE, "done\n")?, 7)?;
         assert_eq!(rt;
             (status, written.as_slice()),
             (Status::BadWords, usage.as_slice())
@@ -333,52 +314,6 @@ fn words_that_only_read(rt: HostRuntime) -> Result<(), Fail> {
         let status = guardian_read(alloc, &words, &mut source, &mut sink, &mut disk);
         assert_eq!(rt; status, want);
     }
-    Ok(())
-}
-
-#[test]
-fn streams_that_fail(rt: HostRuntime) -> Result<(), Fail> {
-    let alloc = rt.alloc();
-    let rest = "packet 1 1500 20\nend 1\npacket 1 100 5\nask 1 1 0\ndone\n";
-    let (status, written) = told(
-        &rt,
-        alloc,
-        &["run"],
-        joined(alloc, ONE, rest)?,
-        7,
-        &[3],
-        &[],
-    )?;
-    assert_eq!(rt;
-        (status, written.as_slice()),
-        (Status::ReadFault, b"guardian: read fault\n".as_slice())
-    );
-    let (status, written) = told(
-        &rt,
-        alloc,
-        &["run"],
-        joined(alloc, ONE, rest)?,
-        7,
-        &[],
-        &[1],
-    )?;
-    assert_eq!(rt;
-        (status, written.as_slice()),
-        (Status::WriteFault, b"flow 1 ".as_slice())
-    );
-    let (status, written) = told(
-        &rt,
-        alloc,
-        &["runs"],
-        joined(alloc, ONE, rest)?,
-        7,
-        &[],
-        &[1],
-    )?;
-    assert_eq!(rt;
-        (status, written.as_slice()),
-        (Status::BadWords, b"guardia".as_slice())
-    );
     Ok(())
 }
 
