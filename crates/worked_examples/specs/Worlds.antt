@@ -1,8 +1,7 @@
 -- Events of the world, and counts of faults, by computation and by cases.
-use Rattle.std.specs.Prelude.{◌≡◌, ℕ, List, [], ◌∷◌, map, true, false, None}
+use Rattle.std.specs.Prelude.{◌≡◌, ℕ, [], ◌∷◌, map, true, false, None}
 use Rattle.lg_base.specs.Causes.{one_more, Rose}
 use Rattle.sketchlet_wire.specs.Uploads.{UploadData, upload_of}
-use Rattle.upload_frame.specs.declared.reply.Reply.{Reply}
 use Rattle.upload_frame.specs.declared.reply.Reply.TheVariants as reply
 use Rattle.uploader_core.specs.declared.state.SeqState.{SeqState}
 use Rattle.uploader_core.specs.declared.state.SeqState.TheVariants.{Idle, Outstanding, Acknowledged}
