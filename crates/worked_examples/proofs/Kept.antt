@@ -8,6 +8,7 @@ use Rattle.lg_model.specs.Answer.{Content}
 use Rattle.sketchlet_wire.specs.Uploads.{UploadData, upload_of}
 use Rattle.column_book.specs.declared.book.TheConstants.{ROOM}
 use Rattle.column_book.specs.declared.fault.BookFault.{BookFault}
+use Rattle.column_book.specs.declared.fault.BookFault.TheVariants.{Conflict}
 use Rattle.column_book.specs.Applying.{decide}
 use Rattle.link_deliveries.specs.Deliveries.{delivered, brought_in_all}
 use Rattle.flow_query.specs.Rebuilt.{IsRebuilt}
@@ -15,10 +16,10 @@ use Rattle.lg_model.specs.Answer.{look_in}
 use Rattle.book_file.specs.Between.{IsBetween}
 use Rattle.book_laws.specs.Legal.{host_at, uploads_at, upload_at, IsLegalNext, AreLegalNext, IsLegal}
 use Rattle.book_laws.specs.Leaving.{IsLeft}
-use Rattle.book_laws.specs.Keeping.{IsJoined, AreAcked, KeepsReplies}
+use Rattle.book_laws.specs.Keeping.{IsJoined, AreAcked, KeepsReplies, IsFirstRefusal}
 use Rattle.book_laws.proofs.Lists.{same_rest}
 use Rattle.worked_examples.specs.Arrivals.{to_two, eleven}
-use Rattle.worked_examples.specs.Keeping.{first_host, second_host, all, none, of_list, no_file, shape, kept, sketch}
+use Rattle.worked_examples.specs.Keeping.{first_host, second_host, other, found, all, none, of_list, no_file, shape, kept, sketch}
 
 second_next : IsLegalNext delivered to_two [] second_host
 unfolding brought_in_all
@@ -72,6 +73,22 @@ kept_unacked h = let a = h.answered 0 first_host (omega arith) refl in at_host a
     at_host zero low told = true≢false (sym (told (All-nil _)))
     at_host (suc zero) low told = true≢false (sym (told (All-nil _)))
     at_host (suc (suc n)) low told = omega (arith, low)
+
+pub refused : IsFirstRefusal delivered to_two found none (Conflict eleven.key other eleven)
+refused = record {
+  host = 0;
+  number = 0;
+  declared = omega arith;
+  earlier = λ h q low there. absurd (omega (arith, low));
+  refused = record { sent = omega arith; list = found; legal = record { more = []; begins = refl; each = tt }; says = refl };
+}
+
+pub no_later_one : (why : BookFault) (r : IsFirstRefusal delivered to_two found none why) → r.host ≡ 0
+no_later_one why r = at r.host r.earlier
+  where
+    at : (n : ℕ) → ((h q : ℕ) → h < n → q < length (uploads_at to_two h) → ◌≡◌ {A = Bool} false true) → n ≡ 0
+    at zero earlier = refl
+    at (suc n) earlier = absurd (true≢false (sym (earlier 0 0 (omega arith) (omega arith))))
 
 pub found_gone : IsLeft (of_list []) delivered to_two (first_host ∷ []) no_file no_file no_file [] (first_host ∷ []) → ⊥
 found_gone h = let n : length ((first_host ∷ []) ++ h.least.0) ≡ 0 = ap (λ (l : List UploadData). length l) h.least.1 in omega (arith, n)

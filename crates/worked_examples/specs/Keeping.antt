@@ -3,8 +3,11 @@ use Rattle.std.specs.Prelude.{◌≡◌, ℕ, List, [], ◌∷◌, map, true, fa
 use Rattle.lg_model.specs.declared.scenario.Hash.TheVariants.{Ports}
 use Rattle.lg_model.specs.declared.scenario.Letter.TheVariants as letter
 use Rattle.lg_model.specs.Placing.{Shape}
+use Rattle.lg_model.specs.Columns.{Column}
 use Rattle.lg_model.specs.Answer.{Content, look_in}
 use Rattle.sketchlet_wire.specs.Uploads.{UploadData, upload_of}
+use Rattle.column_book.specs.declared.fault.BookFault.{BookFault}
+use Rattle.column_book.specs.declared.fault.BookFault.TheVariants.{Conflict}
 use Rattle.sumax_sketch.specs.SketchState.{SketchState}
 use Rattle.uploader_core.specs.declared.state.SeqState.{SeqState}
 use Rattle.uploader_core.specs.declared.state.SeqState.TheVariants.{Idle, Acknowledged, Refused}
@@ -16,7 +19,7 @@ use Rattle.run_laws.specs.Truth.{NoneArrived}
 use Rattle.book_file.specs.Between.{Files, Standing, IsBetween}
 use Rattle.book_laws.specs.Legal.{IsLegal}
 use Rattle.book_laws.specs.Leaving.{IsLeft}
-use Rattle.book_laws.specs.Keeping.{KeepsReplies, IsJoined, IsOverfull, AreAcked, Acks}
+use Rattle.book_laws.specs.Keeping.{KeepsReplies, IsJoined, IsOverfull, AreAcked, Acks, IsFirstRefusal}
 use Rattle.book_laws.specs.Workers.{Worker, acks_of}
 use Rattle.worked_examples.specs.Networks.{bucket, key_of, cells, ask}
 use Rattle.worked_examples.specs.Arrivals.{to_two, eleven, twelve, twelve_too}
@@ -27,6 +30,13 @@ first_host = upload_of 21 0 (eleven ∷ [])
 
 abbrev pub second_host : UploadData
 second_host = upload_of 22 0 (twelve_too ∷ twelve ∷ [])
+
+-- The first host's column with another counter, in a book that was found.
+abbrev pub other : Column
+other = record eleven { cells = cells (bucket 9 9 ∷ bucket 0 0 ∷ []) }
+
+abbrev pub found : List UploadData
+found = upload_of 7 0 (other ∷ []) ∷ []
 
 abbrev pub all : Acks
 all h q = true
@@ -72,6 +82,9 @@ pub record WorkedKeeping : Type 0 where
   -- by host and then by number
   pub acks : map (λ (p : ℕ × ℕ). acks_of two_workers p.0 p.1) ((0, 0) ∷ (0, 1) ∷ (0, 2) ∷ (1, 0) ∷ (1, 1) ∷ (2, 0) ∷ [])
       ≡ true ∷ true ∷ false ∷ false ∷ true ∷ false ∷ []
+  -- whose refusal is told: that of the first host whose uploads are not all acknowledged
+  pub refused : IsFirstRefusal delivered to_two found none (Conflict eleven.key other eleven)
+  pub no_later_one : (why : BookFault) (r : IsFirstRefusal delivered to_two found none why) → r.host ≡ 0
   -- at most one record more than what is kept, which begins with what was found
   pub two_more : IsLeft (of_list []) delivered to_two [] no_file no_file no_file [] (second_host ∷ first_host ∷ []) → ⊥
   pub found_gone : IsLeft (of_list []) delivered to_two (first_host ∷ []) no_file no_file no_file [] (first_host ∷ []) → ⊥

@@ -1,7 +1,7 @@
 use Rattle.link_deliveries.specs.Deliveries.{brought_in_all}
 use Rattle.std.proofs.Common.{arith}
 use Rattle.worked_examples.proofs.Kept.{either_first, other_host, other_number, joined, one_lacks, acked_and_gone}
-use Rattle.worked_examples.proofs.Kept.{kept_unacked, found_gone, not_less, not_more, swapped}
+use Rattle.worked_examples.proofs.Kept.{kept_unacked, refused, no_later_one, found_gone, not_less, not_more, swapped}
 use Rattle.worked_examples.specs.Arrivals.{twelve}
 use Rattle.lg_model.specs.declared.scenario.Letter.TheVariants as letter
 use Rattle.std.proofs.Common.{refl}
@@ -20,6 +20,8 @@ returns c = record {
   kept_unacked = kept_unacked;
   reply_lost = λ h. h 1 letter.LoseReply (omega arith) refl;
   acks = refl;
+  refused = refused;
+  no_later_one = no_later_one;
   two_more = λ h. omega (arith, h.one_more);
   found_gone = found_gone;
   not_less = not_less;
