@@ -15,11 +15,12 @@ const FIRST: &str = "guardian 1\nshape 2 1 ports\npick turns\nhost 1\nswitch 1\n
 const REPORT: &str = "flow 1 switch 1 epoch 0 rows 2 of 2 bytes 1500 delay 20\ncolumns 1\n";
 
 // Two hosts, each with a column of its own, and what `run` writes for them.
-const HOSTS: &str = "guardian 1\nshape 2 2 ports\npick turns\nhost 1\nhost 2\nswitch 1\n\
+pub(crate) const HOSTS: &str = "guardian 1\nshape 2 2 ports\npick turns\nhost 1\nhost 2\nswitch 1\n\
     flow 1 10.0.0.1 10.0.0.2 6 2 1 host 1 path 1\nflow 2 10.0.0.1 10.0.0.2 6 2 2 host 2 path 1\n\
     packet 1 100 10\nend 1\npacket 1 10 1\npacket 2 10 1\nask 1 1 0\ndone\n";
 
-const HOSTS_REPORT: &str = "flow 1 switch 1 epoch 0 rows 2 of 2 bytes 100 delay 10\ncolumns 2\n";
+pub(crate) const HOSTS_REPORT: &str =
+    "flow 1 switch 1 epoch 0 rows 2 of 2 bytes 100 delay 10\ncolumns 2\n";
 
 // The file that the first scenario leaves: one record of one column.
 const ONE: &[u8] = b"\x01LGB1\x02\x00\x01\x00\x00\x00\x00\x00\x00\x00\x00\x00\x01\

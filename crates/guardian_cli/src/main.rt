@@ -3,6 +3,8 @@
 
 #[cfg(test)]
 mod fault_tests;
+#[cfg(test)]
+mod gate_tests;
 
 use guardian_run::guardian;
 use lg_base::{OpenGate, StdSink, StdSource};

@@ -1,7 +1,6 @@
 //! What the gate of a run sees.
 
 use crate::read_tests::ONE_REST;
-use crate::run_tests::HOSTS;
 use crate::tests::{ONE, joined};
 use crate::{Status, guardian};
 use lg_base::{Gate, MemorySink, MemorySource};
@@ -61,44 +60,5 @@ fn one_frame(rt: HostRuntime) -> Result<(), Fail> {
     assert_eq!(rt; status, Status::Ok);
     assert_eq!(rt; gate.equal.load(Ordering::SeqCst), 1);
     assert_eq!(rt; gate.others.load(Ordering::SeqCst), 0);
-    Ok(())
-}
-
-// A gate where each frame waits until as many as that have come.
-#[derive(Drop)]
-struct Meeting<'a, R: Wait> {
-    rt: &'a R,
-    came: AtomicU64,
-    wanted: u64,
-}
-
-impl<R: Wait + Sync> Gate for Meeting<'_, R> {
-    fn pass(&self, _host: u16, _seq: u32, _frame: &[u8]) {
-        self.came.fetch_add(1, Ordering::SeqCst);
-        for _ in self.rt.forever() {
-            if self.came.load(Ordering::SeqCst) >= self.wanted {
-                break;
-            }
-        }
-    }
-}
-
-// The workers of two hosts meet at the gate: neither goes on before the other has come with its frame.
-#[test]
-fn two_workers_meet(rt: HostRuntime) -> Result<(), Fail> {
-    let alloc = rt.alloc();
-    let answer = "flow 1 switch 1 epoch 0 rows 2 of 2 bytes 100 delay 10\ncolumns 2\n";
-    let text = joined(alloc, HOSTS, "")?;
-    let gate = Meeting {
-        rt: &rt,
-        came: AtomicU64::new(0),
-        wanted: 2,
-    };
-    let (status, written) = run_at(&rt, alloc, text, &gate)?;
-    assert_eq!(rt;
-        (status, written.as_slice()),
-        (Status::Ok, answer.as_bytes())
-    );
-    assert_eq!(rt; gate.came.load(Ordering::SeqCst), 2);
     Ok(())
 }

@@ -37,7 +37,7 @@ const LATE_REST: &str =
     packet 1 10 1 late\nrelease\nask 1 1 0\nask 2 1 0\nask 3 1 0\ndone\n";
 
 // Two hosts, each with a column of its own.
-pub(crate) const HOSTS: &str = "guardian 1\nshape 2 2 ports\npick turns\nhost 1\nhost 2\nswitch 1\n\
+const HOSTS: &str = "guardian 1\nshape 2 2 ports\npick turns\nhost 1\nhost 2\nswitch 1\n\
     flow 1 10.0.0.1 10.0.0.2 6 2 1 host 1 path 1\nflow 2 10.0.0.1 10.0.0.2 6 2 2 host 2 path 1\n\
     packet 1 100 10\nend 1\npacket 1 10 1\npacket 2 10 1\nask 1 1 0\ndone\n";
 
