@@ -146,7 +146,7 @@ module _ {J : Type 0} (entries : J → List Entry) (fault : J → Option Entry) 
       begins = prefix_self first;
       strangers = λ n _. refl;
       carried = λ e k. absurd (some_or_none e k);
-      drawn = refl;
+      drawn = omega arith;
       counted = refl;
       most = omega arith;
     },

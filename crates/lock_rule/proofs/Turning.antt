@@ -1,4 +1,4 @@
--- The steps of a turn: to draw a ticket, to look whether it is serving, and to pass the turn on.
+-- The steps of a turn: to draw a ticket, to look whether it is serving, to begin one more call, and to pass the turn on.
 use Rattle.std.proofs.Common.{◌≡◌, ◌≢◌, ℕ, ◌+◌, ◌%◌, ◌^◌, ◌<◌, ◌≤◌, true, List, [], ◌∷◌, length, set, refl, ap, sym, ◌∙◌, subst, arith, Option, Some, None, slice_index}
 use mathlib.Core.Logic.{dite}
 use mathlib.Core.List.{IsPrefix}
@@ -16,7 +16,7 @@ use Rattle.lock_rule.specs.declared.view.Joined.{Joined}
 use Rattle.lock_rule.specs.declared.view.View.{View}
 use Rattle.lock_rule.specs.Views.{most_calls, of, HasTurn, ticket, tickets, calls, heads}
 use Rattle.lock_rule.specs.Rules.{LockState, flag_of, FitsDoing, Fits, FitsJoined, Lies, Stands, Locked}
-use Rattle.lock_rule.specs.Plays.{Took, drew, looked, passed}
+use Rattle.lock_rule.specs.Plays.{Took, drew, looked, began, passed}
 use Rattle.lock_rule.proofs.Fronts.{prefix_self, prefix_whole, prefix_length}
 use Rattle.lock_rule.proofs.Totals.{total_set, total_bound}
 use Rattle.lock_rule.proofs.Staying.{put, put_here, put_else, set_there, some_stays, some_else, fits_stay, is_number_stays, carried_stays, faulty, few_calls, same_ticket, no_ticket, no_turn, turn_of, list_of, some_or, turn_holds}
@@ -254,6 +254,58 @@ module _ {J : Type 0} (entries : J → List Entry) (fault : J → Option Entry) 
           let short : length g.list ≤ length me.0.seen = subst (λ (es : List Entry). length es ≤ length me.0.seen) (sym l.1) (prefix_length first me.0.seen was.from) in
           (sym turn ∙ l.0, sym (prefix_whole me.0.seen g.list was.seen short), l.2)
       lies_here g was turn (Some j) l = let a = l.0 in (omega arith, l.1, l.2, l.3)
+
+  pub begins : (slots id : ℕ) (me : M) → me.0.live ≡ true → me.0.begun < most_calls
+      → Allows Rule slots id me 1 (λ n. n) (began entries fault run (step slots 1 0 0 none) me)
+  begins slots id me alive room s h deep at fit =
+      let g = h.0 in let r = h.1 in let v : View = me.0 in let was = (r.views id v at).0 alive in
+      let w : View = record v { begun = v.begun + 1 } in
+      let waiting = r.waiting in let counts = r.drawn in let c = r.counted in
+      let wait = total_set tickets s.views id v w at in
+      let call = total_set calls s.views id v w at in
+      let head = total_set heads s.views id v w at in (
+        w,
+        keeps,
+        tt,
+        (
+          g,
+          record {
+            words = ap (λ (ws : List ℕ). set ws 1 (slice_index ws 1)) r.words;
+            homes = r.homes;
+            order = r.order;
+            waiting = omega arith;
+            held = λ u a b. some_stays (λ (x : View). ticket x.doing ≡ Some u) s.views id v w at alive (λ e. e) (r.held u a b);
+            home = r.home;
+            away = λ out. some_stays (λ (x : View). HasTurn x.doing) s.views id v w at alive (λ m. m) (r.away out);
+            views = fits_stay first g g s.views id v w at was alive
+                record {
+                  doing = was.doing;
+                  seen = was.seen;
+                  from = was.from;
+                  mine = was.mine;
+                  owned = was.owned;
+                  alive = was.alive;
+                  low = was.low;
+                  high = was.high;
+                  head = was.head;
+                  tail = was.tail;
+                  few = (let l : v.begun + 1 ≤ most_calls = omega arith in l);
+                  mark = was.mark;
+                  still = was.still;
+                }
+                (λ j x m o f. f) r.views;
+            joined = r.joined;
+            numbers = λ n a b. is_number_stays g g s.views id v w at alive refl refl n (r.numbers n a b);
+            begins = r.begins;
+            strangers = r.strangers;
+            carried = λ e k. carried_stays g g s.views id v w at alive (λ d m. m) refl e (r.carried e k);
+            drawn = omega arith;
+            counted = omega arith;
+            most = r.most;
+          },
+        ),
+        (refl, refl),
+      )
 
   pub passes : (slots id : ℕ) (me : M) (t : ℕ) (l : List Entry) (f : Option Entry) (j : J) → me.0.live ≡ true → me.0.doing ≡ Has t l f → me.1 ≡ (0, Some j) ∷ []
       → entries j ≡ l → fault j ≡ f → run j

@@ -71,6 +71,10 @@ module _ {J : Type 0} (entries : J → List Entry) (fault : J → Option Entry) 
   abbrev pub looked : At → Knows → ℕ → Knows → Type 0
   looked st m n m' = (t : ℕ) → m.0.doing ≡ Drew t → (n ≤ t) × (n ≢ t → m' ≡ m) × (n ≡ t → Took t m m')
 
+  -- Again: one more call begins, without a ticket of its own.
+  abbrev pub began : At → Knows → ℕ → Knows → Type 0
+  began st m n m' = (m'.0 ≡ record m.0 { begun = m.0.begun + 1 }) × (m'.1 ≡ m.1)
+
   -- Commit: the seen list becomes the journal's.
   abbrev pub committed : At → Knows → ℕ → Knows → Type 0
   committed st m n m' = (t : ℕ) (l : List Entry) (f : Option Entry) → m.0.doing ≡ Has t l f

@@ -128,8 +128,8 @@ module _ {J : Type 0} (entries : J → List Entry) (fault : J → Option Entry) 
     pub strangers : (n : ℕ) → (n ≡ 0) ⊎ (g.made < n) → of n g.list ≡ of n first
     -- where the journal is broken, a mark carries the entry that may be on the disk
     pub carried : (e : Entry) → g.fault ≡ Some e → Carried g s.views e
-    -- each call drew one ticket, and few passes began few calls each
-    pub drawn : total calls s.views + 1 ≡ g.drawn
+    -- each ticket was drawn for a call, and few passes began few calls each
+    pub drawn : g.drawn ≤ total calls s.views + 1
     pub counted : total heads s.views ≡ g.made
     pub most : g.made ≤ 65
 

@@ -89,6 +89,16 @@ pub record Serves (shape : Shape) (room : ℕ) (u : UploadData) (v w : View) (an
   pub right : IsRight shape room v.number u list answer
   pub marked : Marked v.mark → (list ≡ v.seen) × (answer ≡ Err (Broken (length v.seen)))
 
+-- Uploads that are applied one after the other until one is refused, the answers in their order. Nothing of another pass
+-- comes between: each is applied to the list that the one before it left.
+abbrev pub ServesEach : Shape → (room : ℕ) → List UploadData → (v w : View) → List (Result Applied ApplyFault) → Type 0
+ServesEach shape room [] v w [] = w ≡ v
+ServesEach shape room [] v w (a ∷ as) = ⊥
+ServesEach shape room (u ∷ us) v w [] = ⊥
+ServesEach shape room (u ∷ us) v w (Ok a ∷ as) =
+    (between : View) × Serves shape room u v between (Ok a) × ServesEach shape room us between w as
+ServesEach shape room (u ∷ us) v w (Err fault ∷ as) = Serves shape room u v w (Err fault) × (as ≡ [])
+
 -- A pass is joined into the first one: it goes on that one's list, with its number, what it had seen, and its mark. The
 -- first one has then seen the longer of the two lists, which begins with both; it gains no entry of its own number.
 pub record Joins (v other w : View) : Type 0 where

@@ -1,10 +1,10 @@
 //! One book, shared by many passes.
-ghost use Rattle.std.specs.Prelude.{◌≡◌, ◌≢◌, ◌+◌, ◌<◌, length, None, Some, IfOk, IfErr};
+ghost use Rattle.std.specs.Prelude.{◌≡◌, ◌≢◌, ◌+◌, ◌<◌, ◌≤◌, length, None, Some, IfOk, IfErr, OnErr};
 ghost use Rattle.lock_rule.specs.Closing.{Closes};
 ghost use Rattle.lock_rule.specs.declared.view.Doing.TheVariants.{Idle};
 ghost use Rattle.lock_rule.specs.Views.{most_calls, given, new_pass, parted};
 ghost use Rattle.shared_book.specs.Going.{GoesOn};
-ghost use Rattle.shared_book.specs.Passes.{Joins, Keeps, Serves};
+ghost use Rattle.shared_book.specs.Passes.{Joins, Keeps, Serves, ServesEach};
 
 use crate::bells::Bells;
 use crate::pass::Pass;
@@ -137,6 +137,28 @@ impl<D: Disk> SharedBook<D> {
         pass.badge = seat.into_badge();
         pass.left -= 1;
         answer
+    }
+
+    /// Applies uploads one after the other in one turn, until one is refused, and answers each as [`apply`] does. The
+    /// turn is passed on once, after the last of them. It takes one of the calls that are left for each upload that was
+    /// applied. Where no memory is found for the answers, nothing is applied.
+    ///
+    /// [`apply`]: SharedBook::apply
+    pub fn apply_each<R: Wait>(
+        &self,
+        alloc: Global,
+        rt: &R,
+        pass: &mut Pass,
+        uploads: &[Upload],
+    ) -> Result<Vec<Result<Applied, ApplyFault>>, Memory>
+        requires book { pass.old.book ≡ self.now.id }
+        requires left { pass.old.view.begun + length uploads.now ≤ most_calls }
+        ensures book { pass.new.book ≡ pass.old.book }
+        ensures serves { IfOk result (λ answers. ServesEach self.now.first.shape self.now.first.room uploads.now
+            pass.old.view pass.new.view answers.items) }
+        ensures none { OnErr result (pass.new.view ≡ pass.old.view) }
+    {
+        Err(Memory)
     }
 
     /// Joins another pass into the first one, which then has seen what either has.
