@@ -89,8 +89,7 @@ pub record Serves (shape : Shape) (room : ℕ) (u : UploadData) (v w : View) (an
   pub right : IsRight shape room v.number u list answer
   pub marked : Marked v.mark → (list ≡ v.seen) × (answer ≡ Err (Broken (length v.seen)))
 
--- Uploads that are applied one after the other until one is refused, the answers in their order. Nothing of another pass
--- comes between: each is applied to the list that the one before it left.
+-- Uploads that are applied one after the other until one is refused, and the answers in their order.
 abbrev pub ServesEach : Shape → (room : ℕ) → List UploadData → (v w : View) → List (Result Applied ApplyFault) → Type 0
 ServesEach shape room [] v w [] = w ≡ v
 ServesEach shape room [] v w (a ∷ as) = ⊥
