@@ -230,11 +230,12 @@ def of_disk(bench):
 
 def of_lock(bench):
     """The uploads of a full book through the lock of a shared book in memory, beside one thread without a lock."""
-    for workers in WORKERS:
-        words, none = ([bench.parts, "shared", str(count), str(workers)] for count in (UPLOADS, 0))
-        sides = [Side("parts", Run(words), Run(none))] + side("no lock", bench.parts, ["alone", str(UPLOADS)])
-        size = f"{workers} worker{'s' if workers > 1 else ''}"
-        yield Row("by the lock, an upload", size, UPLOADS, sides, clock=True, turns=4)
+    for word, name in (("shared", "by the lock, an upload"), ("turns", "by the lock, of 8 a turn")):
+        for workers in WORKERS:
+            words, none = ([bench.parts, word, str(count), str(workers)] for count in (UPLOADS, 0))
+            sides = [Side("parts", Run(words), Run(none))] + side("no lock", bench.parts, ["alone", str(UPLOADS)])
+            size = f"{workers} worker{'s' if workers > 1 else ''}"
+            yield Row(name, size, UPLOADS, sides, clock=True, turns=4)
 
 
 # ---- the table -----------------------------------------------------------------------------------------------------

@@ -12,12 +12,13 @@ use std::alloc::{AllocFailed, Global};
 use std::sync::Wait;
 use std::thread::{self, Threads};
 
-// A pass, the first of the uploads that it applies, and how many they are.
+// A pass, the first of the uploads that it applies, how many they are, and how many of them it applies in one turn.
 #[derive(Drop)]
 struct Job {
     pass: Pass,
     from: u32,
     count: u32,
+    turn: u32,
 }
 
 // An empty journal over a disk in memory.
@@ -58,13 +59,51 @@ fn apply_one<D: Disk, R: Wait>(rt: &R, alloc: Global, book: &SharedBook<D>, job:
     let _ = book.apply(rt, &mut job.pass, &upload);
 }
 
+// As many uploads, from that one on.
+fn some_uploads(alloc: Global, from: u32, count: u32) -> Option<Vec<Upload>> {
+    let mut uploads = Vec::new(alloc);
+    for n in 0..count {
+        let upload = upload(alloc, Order::Near, from.wrapping_add(n))?;
+        uploads.push(upload).ok()?;
+    }
+    Some(uploads)
+}
+
+// Applies uploads with the pass of a job in one turn.
+fn apply_turn<D: Disk, R: Wait>(
+    rt: &R,
+    alloc: Global,
+    book: &SharedBook<D>,
+    job: &mut Job,
+    seq: u32,
+)
+    requires book { job.old.pass.book ≡ book.now.id }
+    ensures book { job.new.pass.book ≡ book.now.id }
+    ensures number { job.new.pass.view.number ≡ job.old.pass.view.number }
+{
+    let Some(uploads) = some_uploads(alloc, seq, job.turn) else {
+        return;
+    };
+    if (job.pass.left() as usize) < uploads.len() {
+        return;
+    }
+    let _ = book.apply_each(alloc, rt, &mut job.pass, &uploads);
+}
+
 fn work<D: Disk, R: Wait>(rt: &R, alloc: Global, book: &SharedBook<D>, job: &mut Job)
     requires book { job.old.pass.book ≡ book.now.id }
     ensures book { job.new.pass.book ≡ book.now.id }
     ensures number { job.new.pass.view.number ≡ job.old.pass.view.number }
 {
-    for n in 0..job.count {
-        apply_one(rt, alloc, book, job, job.from.wrapping_add(n));
+    if job.turn == 0 {
+        for n in 0..job.count {
+            apply_one(rt, alloc, book, job, job.from.wrapping_add(n));
+        }
+        return;
+    }
+    for n in 0..job.count / job.turn {
+        let seq = n.wrapping_mul(job.turn).wrapping_add(job.from);
+        apply_turn(rt, alloc, book, job, seq);
     }
 }
 
@@ -95,6 +134,7 @@ fn split_one<D: Disk>(
     jobs: &mut Vec<Job>,
     from: u32,
     count: u32,
+    turn: u32,
 )
     requires book { first.old.book ≡ book.now.id }
     requires first { (first.old.view.number ≡ 1) × (1 ≤ first.old.view.made) × (first.old.view.made < 65) }
@@ -106,7 +146,12 @@ fn split_one<D: Disk>(
     ensures jobs { All (λ j. (j.pass.book ≡ book.now.id) × (j.pass.view.number ≢ 1)) jobs.new.items }
 {
     let pass = book.split(first);
-    if let Err(failed) = jobs.push(Job { pass, from, count }) {
+    if let Err(failed) = jobs.push(Job {
+        pass,
+        from,
+        count,
+        turn,
+    }) {
         let AllocFailed { value } = failed;
         book.join(first, value.pass);
     }
@@ -119,6 +164,7 @@ fn split_all<D: Disk>(
     jobs: &mut Vec<Job>,
     passes: u32,
     each: u32,
+    turn: u32,
 )
     requires few { passes ≤ 64 }
     requires book { first.old.book ≡ book.now.id }
@@ -131,7 +177,7 @@ fn split_all<D: Disk>(
     ensures jobs { All (λ j. (j.pass.book ≡ book.now.id) × (j.pass.view.number ≢ 1)) jobs.new.items }
 {
     for i in 0..passes {
-        split_one(book, first, jobs, i.wrapping_mul(each), each);
+        split_one(book, first, jobs, i.wrapping_mul(each), each, turn);
     }
 }
 
@@ -151,12 +197,14 @@ fn join_all<D: Disk>(book: &SharedBook<D>, first: &mut Pass, jobs: &mut Vec<Job>
 }
 
 /// Does the same through a shared book, with so many passes, 1 to 64, each of which applies its share in a thread of its
-/// own. The count has to be a multiple of theirs.
+/// own: so many uploads a turn by `apply_each`, or, for 0, each by `apply`. The count has to be a multiple of what all
+/// passes apply in a turn.
 pub(crate) fn shared<R: Threads + Wait + Sync>(
     rt: &R,
     alloc: Global,
     count: u32,
     passes: u32,
+    turn: u32,
 ) -> Option<u64> {
     if passes == 0 || passes > 64 || count % passes != 0 {
         return None;
@@ -165,7 +213,7 @@ pub(crate) fn shared<R: Threads + Wait + Sync>(
     let Ok((book, mut first)) = share(alloc, empty(alloc)?) else {
         return None;
     };
-    split_all(&book, &mut first, &mut jobs, passes, count / passes);
+    split_all(&book, &mut first, &mut jobs, passes, count / passes, turn);
     work_all(rt, alloc, &book, jobs.as_mut_slice());
     join_all(&book, &mut first, &mut jobs);
     let (kept, _disk) = book.close(first).close();

@@ -15,6 +15,7 @@
 //! | `journal FILE N` | a journal takes N uploads of 16 new columns |
 //! | `alone N` | a journal over a disk in memory takes N uploads of 16 new columns |
 //! | `shared N PASSES` | the same through a shared book, N / PASSES uploads in each of 1 to 64 threads |
+//! | `turns N PASSES` | the same, 8 uploads a turn |
 //!
 //! The order is `near`, uploads of neighbouring columns, or `scattered`. A book file is of sketches of eight rows of 4,096
 //! buckets, with places by the ports. It writes one number, which tells that the work was done, and ends with 1 where it
@@ -41,6 +42,9 @@ use std::rt::{Env, Files};
 use std::sync::Wait;
 use std::thread::Threads;
 use std::{env, io};
+
+// How many uploads a worker of a run applies in one turn.
+const TURN: u32 = 8;
 
 // The words after the program's name.
 fn words<R: Env + AllocGlobal>(rt: &R) -> io::Result<Vec<String>> {
@@ -122,7 +126,9 @@ fn done<R: Files + Threads + Wait + Sync>(rt: &R, alloc: Global, words: &[String
             if part.as_str() == "read" || part.as_str() == "append" {
                 of_disk(rt, part, name, count)
             } else if part.as_str() == "shared" {
-                shared(rt, alloc, number(name)?, number(count)?)
+                shared(rt, alloc, number(name)?, number(count)?, 0)
+            } else if part.as_str() == "turns" {
+                shared(rt, alloc, number(name)?, number(count)?, TURN)
             } else {
                 of_file(rt, alloc, part, name, count)
             }

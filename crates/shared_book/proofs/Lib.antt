@@ -4,3 +4,4 @@ pub mod Closing
 pub mod Keeping
 pub mod Crossing
 pub mod Told
+pub mod Chained

@@ -1,10 +1,12 @@
 -- What the steps at the lock need of a journal that goes on.
-use Rattle.std.proofs.Common.{◌≡◌, ℕ, ◌≤◌, List, Option, None, Some, Result, Ok, Err, refl, sym, ap, ◌∙◌, subst, arith, inl, inr, ⊎_elim, ◌⊎◌, true, le_trans}
+use Rattle.std.proofs.Common.{◌≡◌, ℕ, ◌≤◌, List, [], ◌∷◌, Option, None, Some, Result, Ok, Err, refl, sym, ap, ◌∙◌, subst, arith, inl, inr, ⊎_elim, ◌⊎◌, true, le_trans}
 use mathlib.Core.Option.{none}
 use Rattle.atomic_table.specs.Table.{Me, Allows, step}
 use Rattle.lg_base.specs.Causes.{Rose, one_more}
 use Rattle.sketchlet_wire.specs.Uploads.{UploadData}
+use Rattle.std.specs.Prelude.{IsSome}
 use Rattle.column_book.specs.declared.entry.Entry.{Entry}
+use Rattle.column_book.specs.Applying.{stored_entry}
 use Rattle.book_journal.specs.declared.applied.Applied.{Applied}
 use Rattle.book_journal.specs.declared.applied.Applied.TheVariants.{Stored, Known}
 use Rattle.book_journal.specs.declared.applied.ApplyFault.{ApplyFault}
@@ -94,3 +96,47 @@ module _ {D : Type 0} (honest : D → Type 0) (seen : D → List ℕ) (images : 
   taken_here key t m m' slot j k is =
       let l = subst (λ (o : Option (JournalState D)). Lies (λ (x : JournalState D). x.entries) (λ (x : JournalState D). x.fault) (Goes key) m.0.seen t k.list k.found o) is k.lies in
       (ap (λ (v : View). v.doing) k.view ∙ (λ i. Has t (sym l.1 i) (sym l.2 i)), l.3)
+
+-- what lies in a slot that is held
+abbrev slot_of : {J : Type 0} → J → List (ℕ × Option J) → J
+slot_of d [] = d
+slot_of d ((n, None) ∷ slots) = d
+slot_of d ((n, Some a) ∷ slots) = a
+
+pub same_slot : {J : Type 0} (a b : J) (slots : List (ℕ × Option J)) → slots ≡ (0, Some a) ∷ [] → slots ≡ (0, Some b) ∷ [] → a ≡ b
+same_slot a b slots one other = ap (slot_of a) (sym one ∙ other)
+
+-- ---- a call that met a fault, or found the journal broken
+
+pub record Breaks {D : Type 0} (old new : JournalState D) : Type 0 where
+  pub entries : new.entries ≡ old.entries
+  pub entry : Entry
+  pub fault : new.fault ≡ Some entry
+  pub before : (old.fault ≡ None) ⊎ (old.fault ≡ Some entry)
+
+pub breaks : {D : Type 0} (pass : ℕ) (u : UploadData) (old new : JournalState D) (answer : Result Applied ApplyFault) → answer ≡ Err DiskFault
+    → Answers pass u old new answer → Breaks old new
+breaks {D = D} pass u old new answer is a =
+    let k = subst (Answers pass u old new) is a in
+    record {
+      entries = ap (λ (j : JournalState D). j.entries) k.1;
+      entry = stored_entry pass old.entries u;
+      fault = ap (λ (j : JournalState D). j.fault) k.1;
+      before = inl k.0.comes.whole;
+    }
+
+pub was_broken : {D : Type 0} (pass n : ℕ) (u : UploadData) (old new : JournalState D) (answer : Result Applied ApplyFault) → answer ≡ Err (Broken n)
+    → Answers pass u old new answer → Breaks old new
+was_broken {D = D} pass n u old new answer is a =
+    let k = subst (Answers pass u old new) is a in
+    let some = there old.fault k.0 in
+    record {
+      entries = ap (λ (j : JournalState D). j.entries) k.2;
+      entry = some.0;
+      fault = ap (λ (j : JournalState D). j.fault) k.2 ∙ some.1;
+      before = inr some.1;
+    }
+  where
+    there : (o : Option Entry) → IsSome o → (e : Entry) × (o ≡ Some e)
+    there None s = absurd (cc s)
+    there (Some e) s = (e, refl)

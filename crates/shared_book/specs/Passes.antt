@@ -1,5 +1,5 @@
 -- A shared book and its passes, as clauses see them.
-use Rattle.std.specs.Prelude.{◌≡◌, ℕ, ◌+◌, ◌≤◌, true, List, [], ◌∷◌, ◌++◌, length, take, Result, Ok, Err}
+use Rattle.std.specs.Prelude.{◌≡◌, ℕ, ◌+◌, ◌≤◌, true, List, [], ◌∷◌, ◌++◌, length, take, Result, Ok, Err, All}
 use mathlib.Core.List.{IsPrefix}
 use Rattle.atomic_table.specs.Seated.{TableId}
 use Rattle.lg_model.specs.Placing.{Shape}
@@ -92,11 +92,21 @@ pub record Serves (shape : Shape) (room : ℕ) (u : UploadData) (v w : View) (an
 -- Uploads that are applied one after the other until one is refused, and the answers in their order.
 abbrev pub ServesEach : Shape → (room : ℕ) → List UploadData → (v w : View) → List (Result Applied ApplyFault) → Type 0
 ServesEach shape room [] v w [] = w ≡ v
-ServesEach shape room [] v w (a ∷ as) = ⊥
+ServesEach shape room [] v w (a ∷ bs) = ⊥
 ServesEach shape room (u ∷ us) v w [] = ⊥
-ServesEach shape room (u ∷ us) v w (Ok a ∷ as) =
-    (between : View) × Serves shape room u v between (Ok a) × ServesEach shape room us between w as
-ServesEach shape room (u ∷ us) v w (Err fault ∷ as) = Serves shape room u v w (Err fault) × (as ≡ [])
+ServesEach shape room (u ∷ us) v w (Ok a ∷ bs) =
+    (between : View) × Serves shape room u v between (Ok a) × ServesEach shape room us between w bs
+ServesEach shape room (u ∷ us) v w (Err fault ∷ bs) = Serves shape room u v w (Err fault) × (bs ≡ [])
+
+-- A turn of a pass: it finds a list behind the lock, and what it has seen after it is that list with entries of its own
+-- alone.
+pub record Together (v w : View) : Type 0 where
+  pub list : List Entry
+  pub begins : IsPrefix v.seen list
+  pub mine : of v.number list ≡ of v.number v.seen
+  pub more : List Entry
+  pub after : w.seen ≡ list ++ more
+  pub own : All (λ (e : Entry). e.pass ≡ v.number) more
 
 -- A pass is joined into the first one: it goes on that one's list, with its number, what it had seen, and its mark. The
 -- first one has then seen the longer of the two lists, which begins with both; it gains no entry of its own number.

@@ -9,8 +9,8 @@ use std::sync::atomic::Ordering::SeqCst;
 // Bells, so many that of 64 passes no two share one.
 const BELLS: usize = 64;
 
-// A pass whose turn is at most so many turns away stays awake.
-const NEAR: u64 = 3;
+// A pass whose turn is at most so many turns away stays awake for a while.
+const NEAR: u64 = 1;
 
 /// A bell for each remainder of a ticket by 64: 1 while a pass may sleep at it, else 0.
 #[derive(Drop)]

@@ -4,11 +4,12 @@ ghost use Rattle.lock_rule.specs.Closing.{Closes};
 ghost use Rattle.lock_rule.specs.declared.view.Doing.TheVariants.{Idle};
 ghost use Rattle.lock_rule.specs.Views.{most_calls, given, new_pass, parted};
 ghost use Rattle.shared_book.specs.Going.{GoesOn};
-ghost use Rattle.shared_book.specs.Passes.{Joins, Keeps, Serves, ServesEach};
+ghost use Rattle.shared_book.specs.Passes.{Joins, Keeps, Serves, ServesEach, Together};
 
 use crate::bells::Bells;
 use crate::pass::Pass;
-use crate::turns::{Part, Place, Turns, pass_on, serve, take_first, take_in};
+use crate::serving::{serve, serve_each};
+use crate::turns::{Part, Place, Turns, pass_on, take_first, take_in};
 use atomic_table::{Badge, Table};
 use book_journal::{Applied, ApplyFault, Journal};
 use lg_base::Memory;
@@ -156,9 +157,29 @@ impl<D: Disk> SharedBook<D> {
         ensures book { pass.new.book ≡ pass.old.book }
         ensures serves { IfOk result (λ answers. ServesEach self.now.first.shape self.now.first.room uploads.now
             pass.old.view pass.new.view answers.items) }
+        ensures together { Together pass.old.view pass.new.view }
+        ensures keeps { (pass.new.view.number ≡ pass.old.view.number) × (pass.new.view.made ≡ pass.old.view.made)
+            × (pass.new.view.joined ≡ pass.old.view.joined) }
         ensures none { OnErr result (pass.new.view ≡ pass.old.view) }
     {
-        Err(Memory)
+        let mut answers = Vec::with_capacity(alloc, uploads.len())?;
+        if uploads.is_empty() {
+            return Ok(answers);
+        }
+        let mut seat: Place<D> = mem::replace(&mut pass.badge, Badge::blank()).into_seat();
+        let top = &self.table.shared;
+        serve_each(
+            rt,
+            top,
+            &self.bells,
+            &mut seat,
+            pass.number,
+            uploads,
+            &mut answers,
+        );
+        pass.badge = seat.into_badge();
+        pass.left -= answers.len() as u32;
+        Ok(answers)
     }
 
     /// Joins another pass into the first one, which then has seen what either has.

@@ -16,6 +16,7 @@ mod book;
 mod laws;
 mod pass;
 mod reply;
+mod serving;
 mod turns;
 
 pub use answering::answer;

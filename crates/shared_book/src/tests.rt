@@ -274,3 +274,54 @@ fn frames_are_answered(rt: HostRuntime) -> Result<(), Fail> {
     assert_eq!(rt; replies, want);
     Ok(())
 }
+
+// What four uploads come to in one turn, how many calls are left then, and how many records there are.
+fn apply_turn<R: Wait>(
+    rt: &R,
+    journal: Journal<MemoryDisk>,
+    alloc: Global,
+    uploads: &[Upload; 4],
+) -> Result<(Vec<Result<Applied, ApplyFault>>, u32, u32), Fail>
+    requires whole { journal.fault ≡ None }
+{
+    let Ok((book, mut first)) = share(alloc, journal) else {
+        return Err("not shared".into());
+    };
+    let answers = book.apply_each(alloc, rt, &mut first, uploads);
+    let left = first.left();
+    let journal = book.close(first);
+    Ok((answers?, left, journal.book().records()))
+}
+
+#[test]
+fn a_turn_ends_at_the_first_refusal(rt: HostRuntime) -> Result<(), Fail> {
+    let alloc = rt.alloc();
+    let disk = MemoryDisk::new(alloc, Vec::new(alloc))?;
+    let Ok(journal) = Journal::open(alloc, disk, &shape()?, ROOM) else {
+        return Err("not opened".into());
+    };
+    let kept = column(1500).ok_or("no column")?;
+    let came = column(700).ok_or("no column")?;
+    let other = Upload::new(1, 1, [came].to_vec(alloc)?)
+        .ok()
+        .ok_or("no upload")?;
+    let uploads = [
+        first_upload(alloc)?,
+        first_upload(alloc)?,
+        other,
+        first_upload(alloc)?,
+    ];
+    let (answers, left, records) = apply_turn(&rt, journal, alloc, &uploads)?;
+    let want = [
+        Ok(Applied::Stored(0)),
+        Ok(Applied::Known),
+        Err(ApplyFault::Conflict {
+            key: KEY,
+            kept,
+            came,
+        }),
+    ];
+    assert_eq!(rt; answers.as_slice(), want.as_slice());
+    assert_eq!(rt; (left, records), (4_294_967_292, 1));
+    Ok(())
+}

@@ -6,10 +6,10 @@ ghost use Rattle.column_book.specs.declared.entry.Entry.{Entry};
 ghost use Rattle.book_journal.specs.Applying.{Answers};
 ghost use Rattle.book_journal.specs.Runs.{JournalState};
 ghost use Rattle.lock_rule.specs.declared.view.Doing.TheVariants.{Idle, Drew, Has};
-ghost use Rattle.lock_rule.specs.Plays.{drew, looked, committed, broke, passed, gained, mark_after};
+ghost use Rattle.lock_rule.specs.Plays.{drew, looked, began, committed, broke, passed, gained, mark_after};
 ghost use Rattle.lock_rule.specs.Views.{most_calls, with_joined, parted, given, spent};
 ghost use Rattle.shared_book.specs.Going.{GoesOn, GoesFrom};
-ghost use Rattle.shared_book.specs.Passes.{Joins, Keeps, Serves, seen_after, mark_for};
+ghost use Rattle.shared_book.specs.Passes.{Joins};
 ghost use Rattle.shared_book.specs.Steps.{IsAt, IsSameSeat, StoredFew, Taken, after_turn, found_by, resting};
 
 use crate::bells::Bells;
@@ -24,7 +24,7 @@ use std::sync::Wait;
 use std::thread;
 
 // A pass whose turn is near and has not come after so many looks goes to sleep.
-const LOOKS: u32 = 64;
+const LOOKS: u32 = 8;
 
 /// The rule of the table.
 pub struct Turns;
@@ -73,6 +73,12 @@ impl<D: Disk, O: Origin<Journal<D>>> Play<Option<Journal<D>>, View> for Look<O> 
         (GoesFrom D.honest D.seen D.images D.moment D.since D.faults O.start) };
 }
 
+struct Again;
+
+impl<D: Disk> Play<Option<Journal<D>>, View> for Again {
+    ghost then = { began (λ j. j.entries) (λ j. j.fault) (λ _. Unit {0}) };
+}
+
 struct Commit;
 
 impl<D: Disk> Play<Option<Journal<D>>, View> for Commit {
@@ -113,8 +119,8 @@ impl Join<View> for Enlist {
     ghost spent = { spent };
 }
 
-// Draws a ticket.
-fn draw_ticket<D: Disk>(top: &Top<D>, seat: &mut Place<D>) -> u64
+/// Draws a ticket.
+pub(crate) fn draw_ticket<D: Disk>(top: &Top<D>, seat: &mut Place<D>) -> u64
     requires table { IsAt seat.old top.now.table_id }
     requires live { seat.old.me.0.live ≡ true }
     requires idle { seat.old.me.0.doing ≡ Idle }
@@ -148,8 +154,8 @@ fn wait<D: Disk, R: Wait>(
     }
 }
 
-// Looks until the ticket is serving, and takes the journal out of the slot.
-fn take<D: Disk, O: Origin<Journal<D>>, R: Wait>(
+/// Looks until the ticket is serving, and takes the journal out of the slot.
+pub(crate) fn take<D: Disk, O: Origin<Journal<D>>, R: Wait>(
     rt: &R,
     top: &Top<D>,
     bells: &Bells,
@@ -177,7 +183,7 @@ fn take<D: Disk, O: Origin<Journal<D>>, R: Wait>(
     unreachable!()
 }
 
-// The first look of all, which finds its turn and no journal.
+/// The first look of all, which finds its turn and no journal.
 pub(crate) fn take_first<D: Disk, O: Origin<Journal<D>>>(top: &Top<D>, seat: &mut Place<D>)
     requires table { IsAt seat.old top.now.table_id }
     requires live { seat.old.me.0.live ≡ true }
@@ -203,7 +209,104 @@ fn give_back<D: Disk>(top: &Top<D>, seat: &mut Place<D>, journal: Journal<D>)
     }
 }
 
-// Gives the journal back and passes the turn on.
+// Takes the journal out of the slot that the seat holds.
+fn take_out<D: Disk>(top: &Top<D>, seat: &mut Place<D>) -> Journal<D>
+    requires table { IsAt seat.old top.now.table_id }
+    requires held { (j : JournalState D) × (seat.old.me.1 ≡ (0, Some j) ∷ []) }
+    ensures same { IsSameSeat seat.old seat.new }
+    ensures out { seat.old.me.1 ≡ (0, Some result) ∷ [] }
+    ensures hand { seat.new.me ≡ (seat.old.me.0, (0, None) ∷ []) }
+{
+    match top.exchange(seat, 0, None) {
+        Some(journal) => journal,
+        None => unreachable!(),
+    }
+}
+
+// Commits the entry that was stored.
+fn commit_entry<D: Disk>(top: &Top<D>, seat: &mut Place<D>, journal: Journal<D>) -> Journal<D>
+    requires table { IsAt seat.old top.now.table_id }
+    requires live { seat.old.me.0.live ≡ true }
+    requires stored { (t : ℕ) × (l : List Entry) × (e : Entry) × (seat.old.me.0.doing ≡ Has t l None)
+        × (journal.entries ≡ l ++ e ∷ []) × (e.pass ≡ seat.old.me.0.number) × (length l < 2 ^ 32) }
+    requires hand { seat.old.me.1 ≡ (0, None) ∷ [] }
+    ensures same { IsSameSeat seat.old seat.new }
+    ensures back { result ≡ journal }
+    ensures hand { seat.new.me.1 ≡ (0, None) ∷ [] }
+    ensures turn { (t : ℕ) × (seat.new.me.0.doing ≡ Has t journal.entries None) }
+    ensures rests { resting seat.new.me.0 journal.entries seat.new.me.0.mark
+        ≡ resting seat.old.me.0 journal.entries seat.old.me.0.mark }
+{
+    give_back(top, seat, journal);
+    top.fetch_add::<Commit>(seat, 2, 1);
+    take_out(top, seat)
+}
+
+// Marks the pass, which broke the journal or found it broken.
+fn mark_pass<D: Disk>(top: &Top<D>, seat: &mut Place<D>, journal: Journal<D>) -> Journal<D>
+    requires table { IsAt seat.old top.now.table_id }
+    requires live { seat.old.me.0.live ≡ true }
+    requires broken { (t : ℕ) × (f : Option Entry) × (e : Entry) × (seat.old.me.0.doing ≡ Has t journal.entries f)
+        × (journal.fault ≡ Some e) × ((f ≡ None) ⊎ (f ≡ Some e)) }
+    requires hand { seat.old.me.1 ≡ (0, None) ∷ [] }
+    ensures same { IsSameSeat seat.old seat.new }
+    ensures back { result ≡ journal }
+    ensures hand { seat.new.me.1 ≡ (0, None) ∷ [] }
+    ensures turn { (t : ℕ) × (seat.new.me.0.doing ≡ Has t journal.entries journal.fault) }
+    ensures rests { resting seat.new.me.0 journal.entries seat.new.me.0.mark
+        ≡ resting seat.old.me.0 journal.entries
+            (mark_after (found_by seat.old.me.0.doing) journal.fault seat.old.me.0.mark) }
+{
+    give_back(top, seat, journal);
+    top.swap::<Break>(seat, 3, 1);
+    take_out(top, seat)
+}
+
+/// Tells the lock what came of an upload that was applied in the turn: a stored entry is committed, and a pass whose
+/// journal is broken is marked.
+pub(crate) fn tell<D: Disk>(
+    top: &Top<D>,
+    seat: &mut Place<D>,
+    journal: Journal<D>,
+    answer: &Result<Applied, ApplyFault>,
+    upload: &Upload,
+) -> Journal<D>
+    requires table { IsAt seat.old top.now.table_id }
+    requires live { seat.old.me.0.live ≡ true }
+    requires turn { (t : ℕ) × (old : JournalState D) × (seat.old.me.0.doing ≡ Has t old.entries old.fault)
+        × Answers seat.old.me.0.number upload.now old journal answer.now }
+    requires few { StoredFew answer.now }
+    requires hand { seat.old.me.1 ≡ (0, None) ∷ [] }
+    ensures same { IsSameSeat seat.old seat.new }
+    ensures back { result ≡ journal }
+    ensures hand { seat.new.me.1 ≡ (0, None) ∷ [] }
+    ensures turn { (t : ℕ) × (seat.new.me.0.doing ≡ Has t journal.entries journal.fault) }
+    ensures rests { resting seat.new.me.0 journal.entries seat.new.me.0.mark
+        ≡ after_turn upload.now seat.old.me.0 answer.now }
+{
+    match answer {
+        Ok(Applied::Stored(_)) => commit_entry(top, seat, journal),
+        Ok(Applied::Known) => journal,
+        Err(fault) => match fault {
+            ApplyFault::DiskFault => mark_pass(top, seat, journal),
+            ApplyFault::Broken { .. } => mark_pass(top, seat, journal),
+            _ => journal,
+        },
+    }
+}
+
+/// Begins one more call in the turn.
+pub(crate) fn begin<D: Disk>(top: &Top<D>, seat: &mut Place<D>)
+    requires table { IsAt seat.old top.now.table_id }
+    requires live { seat.old.me.0.live ≡ true }
+    requires left { seat.old.me.0.begun < most_calls }
+    ensures same { IsSameSeat seat.old seat.new }
+    ensures began { seat.new.me ≡ (record seat.old.me.0 { begun = seat.old.me.0.begun + 1 }, seat.old.me.1) }
+{
+    top.load::<Again>(seat, 1);
+}
+
+/// Gives the journal back and passes the turn on.
 pub(crate) fn pass_on<D: Disk>(
     top: &Top<D>,
     bells: &Bells,
@@ -223,104 +326,7 @@ pub(crate) fn pass_on<D: Disk>(
     bells.ring_for(served.wrapping_add(1));
 }
 
-// The same after an upload was stored: the entry is committed first.
-fn pass_on_stored<D: Disk>(top: &Top<D>, bells: &Bells, seat: &mut Place<D>, journal: Journal<D>)
-    requires table { IsAt seat.old top.now.table_id }
-    requires live { seat.old.me.0.live ≡ true }
-    requires stored { (t : ℕ) × (l : List Entry) × (e : Entry) × (seat.old.me.0.doing ≡ Has t l None)
-        × (journal.entries ≡ l ++ e ∷ []) × (e.pass ≡ seat.old.me.0.number) × (length l < 2 ^ 32) }
-    requires whole { journal.fault ≡ None }
-    requires hand { seat.old.me.1 ≡ (0, None) ∷ [] }
-    requires goes { GoesOn D.honest D.seen D.images D.moment D.since D.faults top.now.key.value journal }
-    ensures same { IsSameSeat seat.old seat.new }
-    ensures passed { seat.new.me ≡ (resting seat.old.me.0 journal.entries seat.old.me.0.mark, []) }
-{
-    give_back(top, seat, journal);
-    top.fetch_add::<Commit>(seat, 2, 1);
-    let served = top.fetch_add::<PassOn>(seat, 1, 1);
-    bells.ring_for(served.wrapping_add(1));
-}
-
-// The same with a broken journal: the pass is marked first.
-fn pass_on_broken<D: Disk>(top: &Top<D>, bells: &Bells, seat: &mut Place<D>, journal: Journal<D>)
-    requires table { IsAt seat.old top.now.table_id }
-    requires live { seat.old.me.0.live ≡ true }
-    requires broken { (t : ℕ) × (f : Option Entry) × (e : Entry) × (seat.old.me.0.doing ≡ Has t journal.entries f)
-        × (journal.fault ≡ Some e) × ((f ≡ None) ⊎ (f ≡ Some e)) }
-    requires hand { seat.old.me.1 ≡ (0, None) ∷ [] }
-    requires goes { GoesOn D.honest D.seen D.images D.moment D.since D.faults top.now.key.value journal }
-    ensures same { IsSameSeat seat.old seat.new }
-    ensures passed { seat.new.me ≡ (
-      resting seat.old.me.0 journal.entries
-          (mark_after (found_by seat.old.me.0.doing) journal.fault seat.old.me.0.mark),
-      [],
-    ) }
-{
-    give_back(top, seat, journal);
-    top.swap::<Break>(seat, 3, 1);
-    let served = top.fetch_add::<PassOn>(seat, 1, 1);
-    bells.ring_for(served.wrapping_add(1));
-}
-
-// Ends a turn in which an upload had this answer.
-fn end_turn<D: Disk>(
-    top: &Top<D>,
-    bells: &Bells,
-    seat: &mut Place<D>,
-    journal: Journal<D>,
-    answer: &Result<Applied, ApplyFault>,
-    upload: &Upload,
-)
-    requires table { IsAt seat.old top.now.table_id }
-    requires live { seat.old.me.0.live ≡ true }
-    requires turn { (t : ℕ) × (old : JournalState D) × (seat.old.me.0.doing ≡ Has t old.entries old.fault)
-        × Answers seat.old.me.0.number upload.now old journal answer.now }
-    requires few { StoredFew answer.now }
-    requires hand { seat.old.me.1 ≡ (0, None) ∷ [] }
-    requires goes { GoesOn D.honest D.seen D.images D.moment D.since D.faults top.now.key.value journal }
-    ensures same { IsSameSeat seat.old seat.new }
-    ensures ended { seat.new.me ≡ (after_turn upload.now seat.old.me.0 answer.now, []) }
-{
-    match answer {
-        Ok(Applied::Stored(_)) => pass_on_stored(top, bells, seat, journal),
-        Err(ApplyFault::DiskFault | ApplyFault::Broken { .. }) => {
-            pass_on_broken(top, bells, seat, journal)
-        }
-        _ => pass_on(top, bells, seat, journal),
-    }
-}
-
-// A whole apply of a pass.
-pub(crate) fn serve<D: Disk, R: Wait>(
-    rt: &R,
-    top: &Top<D>,
-    bells: &Bells,
-    seat: &mut Place<D>,
-    number: u32,
-    upload: &Upload,
-) -> Result<Applied, ApplyFault>
-    requires table { IsAt seat.old top.now.table_id }
-    requires live { seat.old.me.0.live ≡ true }
-    requires idle { seat.old.me.0.doing ≡ Idle }
-    requires left { seat.old.me.0.begun < most_calls }
-    requires number { number ≡ seat.old.me.0.number }
-    requires hand { seat.old.me.1 ≡ [] }
-    ensures same { IsSameSeat seat.old seat.new }
-    ensures hand { seat.new.me.1 ≡ [] }
-    ensures keeps { Keeps seat.old.me.0 seat.new.me.0 }
-    ensures serves { Serves top.now.key.value.shape top.now.key.value.room upload.now
-        seat.old.me.0 seat.new.me.0 result }
-{
-    let ticket = draw_ticket(top, seat);
-    let Some(mut journal) = take::<D, Brand, R>(rt, top, bells, seat, ticket) else {
-        unreachable!()
-    };
-    let answer = journal.apply(number, upload);
-    end_turn(top, bells, seat, journal, &answer, upload);
-    answer
-}
-
-// Joins a pass into the first one.
+/// Joins a pass into the first one.
 pub(crate) fn take_in<D: Disk>(top: &Top<D>, seat: &mut Place<D>, other: Place<D>)
     requires table { IsAt seat.old top.now.table_id }
     requires other_table { other.table_id ≡ top.now.table_id }
