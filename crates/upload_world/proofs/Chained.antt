@@ -1,10 +1,10 @@
 -- Calls one after the other, and what is left of a list of deliveries when one of them fails.
-use Rattle.std.proofs.Common.{◌≡◌, ℕ, ◌+◌, ◌<◌, List, [], ◌∷◌, ◌++◌, map, length, take, drop, get_or, refl, sym, ap, subst, Result, Ok, Err, ◌∙◌, take-append-drop, append-nil, inl}
+use Rattle.std.proofs.Common.{◌≡◌, ℕ, ◌+◌, ◌<◌, List, [], ◌∷◌, ◌++◌, map, length, take, drop, get_or, refl, sym, ap, subst, Result, Ok, Err, ◌∙◌, take-append-drop, inl}
 use Rattle.std.specs.Prelude.{IsErrAnd, All}
 use Rattle.std.proofs.lemmas.List.Elements.{All-nil, All-push}
 use Rattle.lg_model.specs.declared.scenario.Letter.{Letter}
 use Rattle.lg_model.specs.declared.scenario.Letter.TheVariants.{Deliver, Lose, LoseReply, Twice, Hold}
-use Rattle.std.proofs.lemmas.List.{take_more, map_push, map-append}
+use Rattle.std.proofs.lemmas.List.{take_more, map_push}
 use Rattle.std.proofs.lemmas.List.Sums.{fold-append}
 use Rattle.sketchlet_wire.specs.Uploads.{UploadData}
 use Rattle.uploader_core.specs.declared.state.SeqState.{SeqState}
@@ -15,7 +15,7 @@ use Rattle.lock_rule.specs.declared.view.View.{View}
 use Rattle.upload_world.specs.declared.deliver.Sent.{Sent}
 use Rattle.upload_world.specs.declared.fault.WorkFault.{WorkFault}
 use Rattle.upload_world.specs.declared.fault.WorkFault.TheVariants.{Memory}
-use Rattle.upload_world.specs.Pumping.{Stopped, Went, Outcome, seqs, still_held, held_with}
+use Rattle.upload_world.specs.Pumping.{acks, Stopped, Went, Outcome, seqs, still_held, held_with}
 use Rattle.upload_world.proofs.Chains.{went_more, stopped_early, stopped_late}
 
 module _ (shape : Shape) (room : ℕ) (ups : List UploadData) where
@@ -39,20 +39,12 @@ module _ (shape : Shape) (room : ℕ) (ups : List UploadData) where
       err_early (ds ++ es) gs all v x ss us f r whole is
       (stopped_late shape room ups ds es v w x ss ts us f a (subst (λ l. Stopped shape room l es w x ts us f) same s))
 
-  -- the call after those that went is the last one
-  pub ok_then : {A : Type 0} (ups' : List UploadData) (ds es all : List Delivery) (v w x : View) (ss ts us : List SeqState) (r : Result A WorkFault)
-      → all ≡ ds ++ es → ups' ≡ ups
-      → Went shape room ups ds v w ss ts → Outcome shape room ups' es w x ts us r → Outcome shape room ups all v x ss us r
-  ok_then ups' ds es all v w x ss ts us (Ok a) whole same went o = subst (λ l. Went shape room ups l v x ss us) (sym whole)
-      (went_more shape room ups ds es v w x ss ts us went (subst (λ l. Went shape room l es w x ts us) same o))
-  ok_then ups' ds es all v w x ss ts us (Err f) whole same went o = subst (λ l. Stopped shape room ups l v x ss us f) (sym whole)
-      (stopped_late shape room ups ds es v w x ss ts us f went (subst (λ l. Stopped shape room l es w x ts us f) same o))
-
   -- what went, and no more for want of memory
-  pub memory_after : {A : Type 0} (ds : List Delivery) (v w : View) (ss ts : List SeqState) (r : Result A WorkFault) → IsErrAnd r (λ e. e ≡ Memory)
-      → refusals ts ≡ 0 → Went shape room ups ds v w ss ts → Outcome shape room ups ds v w ss ts r
-  memory_after ds v w ss ts r is none went = err_is ds v w ss ts Memory r is
-      (record { made = ds; left = []; split = sym (append-nil ds); between = w; ran = went.ran; last = inl refl; acked = went.acked; none = λ m. none })
+  pub left_for_memory : {A : Type 0} (ds es all : List Delivery) (v w : View) (ss ts us : List SeqState) (r : Result A WorkFault) → all ≡ ds ++ es
+      → IsErrAnd r (λ e. e ≡ Memory) → acks us ≡ acks ts → refusals us ≡ 0 → Went shape room ups ds v w ss ts → Outcome shape room ups all v w ss us r
+  left_for_memory ds es all v w ss ts us r whole is same none went =
+      err_is all v w ss us Memory r is
+      (record { made = ds; left = es; split = whole; between = w; ran = went.ran; last = inl refl; acked = same ∙ went.acked; none = λ m. none })
 
   -- two calls that went
   pub both_went : (ups' : List UploadData) (ds es : List Delivery) (v w x : View) (ss ts us : List SeqState) → ups' ≡ ups → Went shape room ups ds v w ss ts
@@ -75,13 +67,12 @@ held_one held i x short is =
     ap (λ (l : List Sent). map heard (seqs l)) (take_more held i x short ∙ ap (λ (y : Sent). take i held ++ y ∷ []) (sym is))
     ∙ (ap (map heard) (map_push (λ (s : Sent). s.seq) (take i held) x) ∙ map_push heard (seqs (take i held)) x.seq)
 
-pub held_whole : (held : List Sent) (i : ℕ) (x : Sent) → i < length held → x ≡ get_or held i x
-    → map heard (seqs held) ≡ (map heard (seqs (take i held)) ++ heard x.seq ∷ []) ++ map heard (seqs (drop (i + 1) held))
-held_whole held i x short is =
-    ap (λ (l : List Sent). map heard (seqs l)) (sym (take-append-drop (i + 1) held))
-    ∙ (ap (map heard) (map-append (λ (s : Sent). s.seq) (take (i + 1) held) (drop (i + 1) held))
-    ∙ (map-append heard (seqs (take (i + 1) held)) (seqs (drop (i + 1) held))
-    ∙ ap (λ (l : List Delivery). l ++ map heard (seqs (drop (i + 1) held))) (held_one held i x short is)))
+-- one delivery more
+pub more_of : (ds : List Delivery) (i : ℕ) (d : Delivery) → i < length ds → d ≡ get_or ds i d → take (i + 1) ds ≡ take i ds ++ d ∷ []
+more_of ds i d short is = take_more ds i d short ∙ ap (λ (y : Delivery). take i ds ++ y ∷ []) (sym is)
+
+pub whole_of : (ds : List Delivery) (i : ℕ) (d : Delivery) → i < length ds → d ≡ get_or ds i d → ds ≡ (take i ds ++ d ∷ []) ++ drop (i + 1) ds
+whole_of ds i d short is = sym (take-append-drop (i + 1) ds) ∙ ap (λ (l : List Delivery). l ++ drop (i + 1) ds) (more_of ds i d short is)
 
 pub acknowledged_more : (ss ts us : List SeqState) (ds es all : List Delivery) → all ≡ ds ++ es → ts ≡ acknowledge ss ds → us ≡ acknowledge ts es
     → us ≡ acknowledge ss all

@@ -227,10 +227,10 @@ module _ (shape : Shape) (room : ℕ) (ups : List UploadData) (own : ℕ) (ss : 
       (subst (λ x. OnOk (outcome_of q answer) (x ≡ acknowledge ss (d ∷ []))) (sym after) (delivered_states answer r))
 
 -- want of memory before any call
-pub no_memory : {A : Type 0} (shape : Shape) (room : ℕ) (ups : List UploadData) (ds : List Delivery) (v : View) (ss ts : List SeqState)
-    (result : Result A WorkFault) → IsErrAnd result (λ e. e ≡ work.Memory) → acks ts ≡ acks ss → refusals ts ≡ 0
-    → Outcome shape room ups ds v v ss ts result
-no_memory shape room ups ds v ss ts (Ok a) is same none = absurd is
-no_memory shape room ups ds v ss ts (Err (work.Refused q f)) is same none = absurd cc
-no_memory shape room ups ds v ss ts (Err work.Memory) is same none =
-    record { made = []; left = ds; split = refl; between = v; ran = ran_none shape room ups v; last = inl refl; acked = same; none = λ m. none }
+pub no_memory : {A : Type 0} (shape : Shape) (room : ℕ) (ups : List UploadData) (ds : List Delivery) (v w : View) (ss ts : List SeqState)
+    (result : Result A WorkFault) → w ≡ v → IsErrAnd result (λ e. e ≡ work.Memory) → acks ts ≡ acks ss → refusals ts ≡ 0
+    → Outcome shape room ups ds v w ss ts result
+no_memory shape room ups ds v w ss ts (Ok a) still is same none = absurd is
+no_memory shape room ups ds v w ss ts (Err (work.Refused q f)) still is same none = absurd cc
+no_memory shape room ups ds v w ss ts (Err work.Memory) still is same none =
+    record { made = []; left = ds; split = refl; between = v; ran = ran_none shape room ups v; last = inl still; acked = same; none = λ m. none }

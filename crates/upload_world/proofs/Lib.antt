@@ -8,6 +8,9 @@ pub mod Chains
 pub mod Delivered
 pub mod Chained
 pub mod Steady
+pub mod Dues
+pub mod Postponed
+pub mod Turns
 pub mod Sending
 pub mod Rounding
 pub mod Whole

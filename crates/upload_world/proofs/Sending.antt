@@ -1,9 +1,10 @@
 -- One send of a round.
-use Rattle.std.proofs.Common.{◌≡◌, ◌⊎◌, inl, inr, ℕ, zero, suc, ◌<◌, ◌≤◌, Bool, true, false, cond, Some, None, slice_get, arith, ltb, ltb-true, ltb-false, List, [], ◌∷◌, length, length-set, set, refl, sym, ap, subst, Result, Ok, Err, ◌∙◌}
+use Rattle.std.proofs.Common.{◌≡◌, ◌⊎◌, inl, inr, ℕ, zero, suc, ◌<◌, ◌≤◌, Bool, true, false, cond, Some, None, slice_get, arith, ltb, ltb-true, ltb-false, List, [], ◌∷◌, length, length-set, set, refl, sym, ap, subst, Result, Ok, Err, ◌∙◌, ◌++◌}
 use Rattle.std.specs.Prelude.{All, IsErrAnd, nat_lt, position}
 use Rattle.std.specs.List.{position_or_len}
 use Rattle.std.proofs.lemmas.List.Sums.{fails_before_first}
 use Rattle.std.proofs.lemmas.List.Quantifiers.{position-Some}
+use Rattle.std.proofs.lemmas.List.Elements.{All-cons}
 use Rattle.lg_model.specs.declared.limits.TheConstants.{MOST_OUTSTANDING}
 use Rattle.lg_model.specs.declared.scenario.Letter.{Letter}
 use Rattle.sketchlet_wire.specs.Uploads.{UploadData}
@@ -12,16 +13,15 @@ use Rattle.uploader_core.specs.declared.state.SeqState.TheVariants as states
 use Rattle.uploader_core.specs.States.{outstanding, is_idle, state_at, next_of, sent}
 use Rattle.uploader_core.specs.Uploader.{UploaderState}
 use Rattle.link_deliveries.specs.Waiting.{IsNext, refusals}
-use Rattle.link_deliveries.specs.Deliveries.{Delivery, send, brings, held_after, acknowledge}
+use Rattle.link_deliveries.specs.Deliveries.{send, brings, held_after}
 use Rattle.link_deliveries.proofs.Room.{sent_acks, sent_refused}
-use Rattle.lg_model.specs.Placing.{Shape}
-use Rattle.lock_rule.specs.declared.view.View.{View}
+use Rattle.lg_base.specs.declared.faults.Memory.{Memory as Starved}
 use Rattle.upload_world.specs.declared.deliver.Sent.{Sent}
-use Rattle.upload_world.specs.declared.fault.WorkFault.{WorkFault}
-use Rattle.upload_world.specs.declared.fault.WorkFault.TheVariants.{Memory}
+use Rattle.upload_world.specs.declared.deliver.Due.{Due}
 use Rattle.upload_world.specs.Pumps.{upload_at}
-use Rattle.upload_world.specs.Pumping.{acks, IsSteady, Went, Stopped, IsSent, seqs, SentNext, SentNone, SentStopped, SendsNext}
-use Rattle.upload_world.proofs.Chains.{ran_none, acks_acknowledged}
+use Rattle.upload_world.specs.Pumping.{acks, IsSteady, IsSent, IsDue, MakesDue, dues, seqs, still_held, held_with, SentNext, SentNone, SendsNext}
+use Rattle.upload_world.proofs.Chained.{held_sent}
+use Rattle.upload_world.proofs.Dues.{seqs_held}
 
 -- the upload that is next, by its definition
 pub next_is : (ss : List SeqState) (q : ℕ) → Some q ≡ next_of ss → IsNext ss q
@@ -71,81 +71,37 @@ upload_is [] q u is = absurd (cc is)
 upload_is (x ∷ ups) zero u is = let e : x ≡ u = cc is in sym e
 upload_is (x ∷ ups) (suc q) u is = upload_is ups q u is
 
-module _ (shape : Shape) (room : ℕ) (ups : List UploadData) (host : ℕ) (letter : Letter) (ss : List SeqState) (held kept : List Sent) (v : View) (q : ℕ)
-    (next : IsNext ss q) where
-  -- want of memory before the send
-  pub hand_failed : (ts : List SeqState) (r : Result Bool WorkFault) → ts ≡ set ss q states.Outstanding → refusals ss ≡ 0 → IsErrAnd r (λ e. e ≡ Memory)
-      → SendsNext shape room ups host letter ss ts held kept v v r
-  hand_failed ts (Ok b) is clear err = absurd err
-  hand_failed ts (Err e) is clear err = subst (λ f. SentStopped shape room ups letter ss ts held v v f) (sym err) (record {
-    q = q;
-    next = next;
-    stopped = record {
-      made = [];
-      left = brings (send q letter) (seqs held);
-      split = refl;
-      between = v;
-      ran = ran_none shape room ups v;
-      last = inl refl;
-      acked = ap acks is ∙ sent_acks ss q next;
-      none = λ m. ap refusals is ∙ (sent_refused ss q next ∙ clear);
-    };
-  })
+module _ (host : ℕ) (ups : List UploadData) (letter : Letter) (ss : List SeqState) (held kept : List Sent) (old new : Due) (q : ℕ) (next : IsNext ss q) where
+  -- want of memory for what was sent
+  pub send_failed : (P : Starved → Type 0) (ts : List SeqState) (r : Result Bool Starved) → ts ≡ set ss q states.Outstanding → IsErrAnd r P
+      → SendsNext host ups letter ss ts held kept old new r
+  send_failed P ts (Ok b) is err = absurd err
+  send_failed P ts (Err e) is err = ap acks is ∙ sent_acks ss q next
 
-  same_acks : (ss1 us : List SeqState) (ds : List Delivery) → ss1 ≡ set ss q states.Outstanding → acks us ≡ acks (acknowledge ss1 ds)
-      → acks us ≡ acks (acknowledge ss ds)
-  same_acks ss1 us ds is same = same ∙ acks_acknowledged ss1 ss ds (ap acks is ∙ sent_acks ss q next)
-
-  -- a send that ended within its deliveries
-  pub send_failed : (ups' : List UploadData) (seq : ℕ) (ss1 us : List SeqState) (w : View) (f : WorkFault) (r : Result Bool WorkFault) → seq ≡ q → ups' ≡ ups
-      → ss1 ≡ set ss q states.Outstanding → IsErrAnd r (λ e. e ≡ f)
-      → Stopped shape room ups' (brings (send seq letter) (seqs held)) v w ss1 us f → SendsNext shape room ups host letter ss us held kept v w r
-  send_failed ups' seq ss1 us w f (Ok b) number same is err s = absurd err
-  send_failed ups' seq ss1 us w f (Err e) number same is err s =
-      let t : Stopped shape room ups (brings (send q letter) (seqs held)) v w ss1 us f
-      = subst (λ u. Stopped shape room u (brings (send q letter) (seqs held)) v w ss1 us f) same
-      (subst (λ n. Stopped shape room ups' (brings (send n letter) (seqs held)) v w ss1 us f) number s) in
-      subst (λ g. SentStopped shape room ups letter ss us held v w g) (sym err) (record {
-        q = q;
-        next = next;
-        stopped = record {
-          made = t.made;
-          left = t.left;
-          split = t.split;
-          between = t.between;
-          ran = t.ran;
-          last = t.last;
-          acked = same_acks ss1 us t.made is t.acked;
-          none = t.none;
-        };
-      })
-
-  -- a send whose deliveries all went
-  pub send_went : (ups' : List UploadData) (host' seq : ℕ) (ss1 us : List SeqState) (w : View) → seq ≡ q → ups' ≡ ups → host' ≡ host
-      → ss1 ≡ set ss q states.Outstanding
-      → us ≡ acknowledge ss1 (brings (send seq letter) (seqs held)) → seqs kept ≡ held_after letter seq (seqs held) → All (IsSent host' ups') kept
-      → Went shape room ups' (brings (send seq letter) (seqs held)) v w ss1 us → SentNext shape room ups host letter ss us held kept v w
-  send_went ups' host' seq ss1 us w number same same_host is states_are held_are each went =
-      let t : Went shape room ups (brings (send q letter) (seqs held)) v w ss1 us
-      = subst (λ u. Went shape room u (brings (send q letter) (seqs held)) v w ss1 us) same
-      (subst (λ n. Went shape room ups' (brings (send n letter) (seqs held)) v w ss1 us) number went) in
+  -- what was sent is held or due
+  pub send_went : (ups' : List UploadData) (host' : ℕ) (s : Sent) (ts : List SeqState) → s.seq ≡ q → ups' ≡ ups → host' ≡ host
+      → ts ≡ set ss q states.Outstanding → IsSent host' ups' s → All (IsSent host ups) held → IsDue host ups old
+      → kept ≡ held_with letter s (still_held letter held) → dues new ≡ dues old ++ brings (send s.seq letter) (seqs held)
+      → MakesDue (s ∷ held) old new → SentNext host ups letter ss ts held kept old new
+  send_went ups' host' s ts number same same_host is sent_is each due held_are more makes =
+      let own : IsSent host ups s = subst (λ u. IsSent host u s) same (subst (λ h. IsSent h ups' s) same_host sent_is) in
       record {
         q = q;
         next = next;
-        states = states_are ∙ (ap (λ (l : List SeqState). acknowledge l (brings (send seq letter) (seqs held))) is
-            ∙ ap (λ (n : ℕ). acknowledge (set ss q states.Outstanding) (brings (send n letter) (seqs held))) number);
-        held_is = held_are ∙ ap (λ (n : ℕ). held_after letter n (seqs held)) number;
-        each = subst (λ u. All (IsSent host u) kept) same (subst (λ h. All (IsSent h ups') kept) same_host each);
-        went = record { ran = t.ran; acked = same_acks ss1 us (brings (send q letter) (seqs held)) is t.acked };
+        states = is;
+        held_is = seqs_held letter s held kept held_are ∙ ap (λ (n : ℕ). held_after letter n (seqs held)) number;
+        each = held_sent (IsSent host ups) letter s held (still_held letter held) kept refl held_are own each;
+        brought = more ∙ ap (λ (n : ℕ). dues old ++ brings (send n letter) (seqs held)) number;
+        due = makes host ups (All-cons (IsSent host ups) s held own each) due;
       }
 
 -- a send by its answer
-pub sent_one : (shape : Shape) (room : ℕ) (ups : List UploadData) (host : ℕ) (letter : Letter) (ss ts : List SeqState) (held kept : List Sent) (v w : View)
-    (b : Bool) → b ≡ true → SendsNext shape room ups host letter ss ts held kept v w (Ok b) → SentNext shape room ups host letter ss ts held kept v w
-sent_one shape room ups host letter ss ts held kept v w true is s = s
-sent_one shape room ups host letter ss ts held kept v w false is s = absurd cc
+pub sent_one : (host : ℕ) (ups : List UploadData) (letter : Letter) (ss ts : List SeqState) (held kept : List Sent) (old new : Due)
+    (b : Bool) → b ≡ true → SendsNext host ups letter ss ts held kept old new (Ok b) → SentNext host ups letter ss ts held kept old new
+sent_one host ups letter ss ts held kept old new true is s = s
+sent_one host ups letter ss ts held kept old new false is s = absurd cc
 
-pub sent_none : (shape : Shape) (room : ℕ) (ups : List UploadData) (host : ℕ) (letter : Letter) (ss ts : List SeqState) (held kept : List Sent) (v w : View)
-    (b : Bool) → b ≡ false → SendsNext shape room ups host letter ss ts held kept v w (Ok b) → SentNone shape room ups ss ts held kept v w
-sent_none shape room ups host letter ss ts held kept v w true is s = absurd cc
-sent_none shape room ups host letter ss ts held kept v w false is s = s
+pub sent_none : (host : ℕ) (ups : List UploadData) (letter : Letter) (ss ts : List SeqState) (held kept : List Sent) (old new : Due)
+    (b : Bool) → b ≡ false → SendsNext host ups letter ss ts held kept old new (Ok b) → SentNone ss ts held kept old new
+sent_none host ups letter ss ts held kept old new true is s = absurd cc
+sent_none host ups letter ss ts held kept old new false is s = s

@@ -5,9 +5,9 @@ use Rattle.uploader_core.specs.declared.state.SeqState.{SeqState}
 use Rattle.lg_model.specs.declared.limits.TheConstants.{MOST_OUTSTANDING}
 use Rattle.lg_model.specs.declared.scenario.Letter.{Letter}
 use Rattle.lg_model.specs.declared.scenario.Letter.TheVariants.{Deliver, Lose, LoseReply, Twice, Hold}
-use Rattle.uploader_core.specs.States.{is_acknowledged, is_idle, outstanding, state_at}
+use Rattle.uploader_core.specs.States.{is_acknowledged, is_idle, outstanding, state_at, sent}
 use Rattle.link_deliveries.specs.Waiting.{refusals, IsNext}
-use Rattle.link_deliveries.specs.Deliveries.{Delivery, acknowledge, brings, send, after_send, held_after, EndsRound}
+use Rattle.link_deliveries.specs.Deliveries.{Delivery, delivery, brings, send, acknowledge, held_after, EndsRound}
 use Rattle.column_book.specs.declared.entry.Entry.{Entry}
 use Rattle.book_journal.specs.declared.applied.Applied.{Applied}
 use Rattle.book_journal.specs.declared.applied.ApplyFault.{ApplyFault}
@@ -23,6 +23,9 @@ use Rattle.uploader_core.specs.Uploader.{UploaderState, states_after}
 use Rattle.lock_rule.specs.declared.view.View.{View}
 use Rattle.lock_rule.specs.Views.{Marked}
 use Rattle.upload_world.specs.declared.deliver.Sent.{Sent}
+use Rattle.upload_world.specs.declared.deliver.Coming.{Coming}
+use Rattle.upload_world.specs.declared.deliver.Due.{Due}
+use Rattle.lg_base.specs.declared.faults.Memory.{Memory as Starved}
 use Rattle.upload_world.specs.declared.fault.WorkFault.{WorkFault}
 use Rattle.upload_world.specs.declared.fault.WorkFault.TheVariants.{Refused, Memory}
 
@@ -41,6 +44,31 @@ pub record IsSent (host : ℕ) (ups : List UploadData) (s : Sent) : Type 0 where
   pub named : ((upload_at ups s.seq).host ≡ host) × ((upload_at ups s.seq).seq ≡ s.seq)
   pub full : IsFull (upload_at ups s.seq)
   pub frame : s.frame.items ≡ frame_of (upload_at ups s.seq)
+
+-- The frame of some upload.
+pub record IsFrame (s : Sent) : Type 0 where
+  pub upload : UploadData
+  pub full : IsFull upload
+  pub frame : s.frame.items ≡ frame_of upload
+
+-- The deliveries that are due, in order.
+abbrev pub dues : Due → List Delivery
+dues due = map (λ (c : Coming). delivery c.seq c.heard) due.order.items
+
+-- Each is of one of these uploads of that host, and the uploads beside them are those.
+pub record IsDue (host : ℕ) (ups : List UploadData) (due : Due) : Type 0 where
+  pub uploads : due.uploads.items ≡ map (λ (d : Delivery). upload_at ups d.seq) (dues due)
+  pub short : All (λ (d : Delivery). d.seq < length ups) (dues due)
+  pub named : All (λ (d : Delivery). ((upload_at ups d.seq).host ≡ host) × ((upload_at ups d.seq).seq ≡ d.seq)) (dues due)
+
+-- Nothing is due.
+pub record IsNothing (due : Due) : Type 0 where
+  pub uploads : due.uploads.items ≡ []
+  pub order : due.order.items ≡ []
+
+-- What came of these frames is due as well.
+abbrev pub MakesDue : List Sent → Due → Due → Type 0
+MakesDue frames old new = (host : ℕ) (ups : List UploadData) → All (IsSent host ups) frames → IsDue host ups old → IsDue host ups new
 
 -- An uploader none of whose uploads was refused.
 pub record IsSteady (u : UploaderState) : Type 0 where
@@ -159,31 +187,27 @@ module _ (shape : Shape) (room : ℕ) (ups : List UploadData) where
   Outcome ds v w ss ts (Ok a) = Went ds v w ss ts
   Outcome ds v w ss ts (Err fault) = Stopped ds v w ss ts fault
 
-  -- The next upload was sent, with that letter.
-  pub record SentNext (host : ℕ) (letter : Letter) (ss ts : List SeqState) (held kept : List Sent) (v w : View) : Type 0 where
-    pub q : ℕ
-    pub next : IsNext ss q
-    pub states : ts ≡ after_send ss q letter (seqs held)
-    pub held_is : seqs kept ≡ held_after letter q (seqs held)
-    pub each : All (IsSent host ups) kept
-    pub went : Went (brings (send q letter) (seqs held)) v w ss ts
+-- The next upload was sent, with that letter, and what this brings is due.
+pub record SentNext (host : ℕ) (ups : List UploadData) (letter : Letter) (ss ts : List SeqState) (held kept : List Sent) (old new : Due) : Type 0 where
+  pub q : ℕ
+  pub next : IsNext ss q
+  pub states : ts ≡ sent ss q
+  pub held_is : seqs kept ≡ held_after letter q (seqs held)
+  pub each : All (IsSent host ups) kept
+  pub brought : dues new ≡ dues old ++ brings (send q letter) (seqs held)
+  pub due : IsDue host ups new
 
-  -- No upload is to be sent in this round.
-  pub record SentNone (ss ts : List SeqState) (held kept : List Sent) (v w : View) : Type 0 where
-    pub over : (MOST_OUTSTANDING ≤ outstanding ss) ⊎ ((k : ℕ) → k < length ss → is_idle (state_at ss k) ≡ false)
-    pub states : ts ≡ ss
-    pub held_is : kept ≡ held
-    pub view : w ≡ v
+-- No upload is to be sent now.
+pub record SentNone (ss ts : List SeqState) (held kept : List Sent) (old new : Due) : Type 0 where
+  pub over : (MOST_OUTSTANDING ≤ outstanding ss) ⊎ ((k : ℕ) → k < length ss → is_idle (state_at ss k) ≡ false)
+  pub states : ts ≡ ss
+  pub held_is : kept ≡ held
+  pub due_is : new ≡ old
 
-  pub record SentStopped (letter : Letter) (ss ts : List SeqState) (held : List Sent) (v w : View) (fault : WorkFault) : Type 0 where
-    pub q : ℕ
-    pub next : IsNext ss q
-    pub stopped : Stopped (brings (send q letter) (seqs held)) v w ss ts fault
-
-  abbrev pub SendsNext : ℕ → Letter → List SeqState → List SeqState → List Sent → List Sent → View → View → Result Bool WorkFault → Type 0
-  SendsNext host letter ss ts held kept v w (Ok true) = SentNext host letter ss ts held kept v w
-  SendsNext host letter ss ts held kept v w (Ok false) = SentNone ss ts held kept v w
-  SendsNext host letter ss ts held kept v w (Err fault) = SentStopped letter ss ts held v w fault
+abbrev pub SendsNext : ℕ → List UploadData → Letter → List SeqState → List SeqState → List Sent → List Sent → Due → Due → Result Bool Starved → Type 0
+SendsNext host ups letter ss ts held kept old new (Ok true) = SentNext host ups letter ss ts held kept old new
+SendsNext host ups letter ss ts held kept old new (Ok false) = SentNone ss ts held kept old new
+SendsNext host ups letter ss ts held kept old new (Err fault) = acks ts ≡ acks ss
 
 -- What a round does, and the place of the letter that is next.
 abbrev pub RoundEnds : List Letter → ℕ → List SeqState → List SeqState → Result ℕ WorkFault → Type 0

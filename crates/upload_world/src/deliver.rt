@@ -1,18 +1,12 @@
-//! One delivery: an upload is read from its frame and applied, and its reply may be handed on.
-ghost use Rattle.std.specs.Prelude.{◌≡◌, ◌<◌, OnOk, [], ◌∷◌, cond};
-ghost use Rattle.link_deliveries.specs.Deliveries.{acknowledge, delivery};
-ghost use Rattle.lock_rule.specs.Views.{most_calls};
-ghost use Rattle.upload_world.specs.Pumping.{IsSent, IsSteady, IsSame, Outcome, outcome_of, answered};
+//! Deliveries that are due: each upload was read from its frame, and waits for the turn at the book.
+ghost use Rattle.std.specs.Prelude.{◌≡◌, ◌==◌, OnOk, [], ◌∷◌, ◌++◌, length};
+ghost use Rattle.link_deliveries.specs.Deliveries.{delivery};
+ghost use Rattle.upload_world.specs.Pumping.{IsFrame, IsNothing, MakesDue, dues};
 
-use crate::fault::WorkFault;
-use book_journal::{Applied, ApplyFault};
-use lg_disk::Disk;
-use shared_book::{Pass, SharedBook, reply_of};
+use lg_base::Memory;
 use sketchlet_wire::Upload;
 use std::alloc::Global;
-use std::sync::Wait;
 use upload_frame::read_upload;
-use uploader_core::Uploader;
 
 /// An upload that was sent: its number, and its frame as the gate was handed it.
 #[derive(Drop)]
@@ -21,58 +15,58 @@ pub(crate) struct Sent {
     pub(crate) frame: Vec<u8>,
 }
 
-// Hands the reply to an application on, where there is one and it is heard.
-fn hand_on(
-    uploader: &mut Uploader,
-    upload: &Upload,
-    answer: &Result<Applied, ApplyFault>,
-    heard: bool,
-)
-    ensures { uploader.new ≡ record uploader.old {
-      states = cond heard (answered uploader.old.host uploader.old.states upload.now answer.now) uploader.old.states;
-    } }
-{
-    if heard && let Some(reply) = reply_of(upload, answer) {
-        let _refused = uploader.on_reply(&reply);
+/// An upload that comes, by its number, and whether its reply is heard.
+#[derive(Clone, Copy, Drop)]
+pub(crate) struct Coming {
+    pub(crate) seq: u32,
+    pub(crate) heard: bool,
+}
+
+/// What is due: the uploads that came, in order, and beside them which of the host's they are.
+#[derive(Drop)]
+pub(crate) struct Due {
+    pub(crate) uploads: Vec<Upload>,
+    pub(crate) order: Vec<Coming>,
+}
+
+impl Due {
+    /// Nothing.
+    pub(crate) fn new(alloc: Global) -> Due
+        ensures { IsNothing result }
+    {
+        Due {
+            uploads: Vec::new(alloc),
+            order: Vec::new(alloc),
+        }
+    }
+
+    /// Whether nothing is due.
+    pub(crate) fn is_empty(&self) -> bool
+        ensures { result ≡ (length self.now.order.items == 0) }
+    {
+        self.order.len() == 0
+    }
+
+    /// Takes all of it out. The room stays.
+    pub(crate) fn clear(&mut self)
+        ensures { IsNothing self.new }
+    {
+        self.uploads.clear();
+        self.order.clear();
     }
 }
 
-// What a worker makes of an answer to the upload of that number.
-fn outcome(seq: u32, answer: Result<Applied, ApplyFault>) -> Result<(), WorkFault>
-    ensures { result ≡ outcome_of seq answer }
-{
-    match answer {
-        Ok(_) => Ok(()),
-        Err(ApplyFault::Memory) => Err(WorkFault::Memory),
-        Err(fault) => Err(WorkFault::Refused { seq, fault }),
-    }
-}
-
-/// Delivers an upload that was sent. The reply is handed on where it is heard.
-pub(crate) fn deliver<D: Disk, R: Wait>(
-    alloc: Global,
-    rt: &R,
-    book: &SharedBook<D>,
-    pass: &mut Pass,
-    uploader: &mut Uploader,
-    sent: &Sent,
-    heard: bool,
-) -> Result<(), WorkFault>
-    requires book { pass.old.book ≡ book.now.id }
-    requires left { pass.old.view.begun < most_calls }
-    requires sent { IsSent uploader.old.host uploader.old.uploads sent.now }
-    requires steady { IsSteady uploader.old }
-    ensures book { pass.new.book ≡ pass.old.book }
-    ensures same { IsSame uploader.old uploader.new }
-    ensures steady { OnOk result (IsSteady uploader.new) }
-    ensures states { OnOk result (uploader.new.states
-        ≡ acknowledge uploader.old.states (delivery sent.now.seq heard ∷ [])) }
-    ensures outcome { Outcome book.now.first.shape book.now.first.room uploader.old.uploads
-        (delivery sent.now.seq heard ∷ [])
-        pass.old.view pass.new.view uploader.old.states uploader.new.states result }
+/// Reads an upload that was sent from its frame. It is due from then on, after all that was.
+pub(crate) fn deliver(alloc: Global, due: &mut Due, sent: &Sent, heard: bool) -> Result<(), Memory>
+    requires frame { IsFrame sent.now }
+    ensures dues { OnOk result (dues due.new ≡ dues due.old ++ delivery sent.now.seq heard ∷ []) }
+    ensures due { OnOk result (MakesDue (sent.now ∷ []) due.old due.new) }
 {
     let upload = read_upload(alloc, &sent.frame)?;
-    let answer = book.apply(rt, pass, &upload);
-    hand_on(uploader, &upload, &answer, heard);
-    outcome(sent.seq, answer)
+    due.uploads.push(upload)?;
+    due.order.push(Coming {
+        seq: sent.seq,
+        heard,
+    })?;
+    Ok(())
 }

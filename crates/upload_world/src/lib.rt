@@ -18,6 +18,7 @@ mod fault;
 mod laws;
 mod round;
 mod send;
+mod settle;
 mod steps;
 mod worker;
 mod world;

@@ -1,13 +1,14 @@
-//! One round: sends as long as the window is open, and what is held at the end.
-ghost use Rattle.std.specs.Prelude.{◌≡◌, ◌+◌, ◌*◌, ◌<◌, ◌≤◌, ℕ, OnOk, IfOk, All, length, drop, false};
-ghost use Rattle.link_deliveries.specs.Waiting.{IsNext, unacknowledged};
-ghost use Rattle.link_deliveries.specs.Deliveries.{letter_of, brings, send, round};
+//! One round: sends as long as the window is open, takes the turn when it is shut, and then what is held comes.
+ghost use Rattle.std.specs.Prelude.{◌≡◌, ◌+◌, ◌*◌, ◌<◌, ◌≤◌, OnOk, IfOk, All, length, drop};
+ghost use Rattle.link_deliveries.specs.Waiting.{unacknowledged};
+ghost use Rattle.link_deliveries.specs.Deliveries.{letter_of, round};
 ghost use Rattle.lock_rule.specs.Views.{most_calls};
-ghost use Rattle.upload_world.specs.Pumping.{IsSent, IsSteady, IsSame, Outcome, seqs, SendsNext, RoundEnds};
+ghost use Rattle.upload_world.specs.Pumping.{IsSent, IsDue, IsSteady, IsSame, Outcome, SendsNext, RoundEnds};
 
-use crate::deliver::Sent;
+use crate::deliver::{Due, Sent};
 use crate::fault::WorkFault;
 use crate::send::{release, send};
+use crate::settle::settle;
 use lg_base::{Gate, Memory};
 use lg_disk::Disk;
 use lg_model::Letter;
@@ -44,37 +45,33 @@ fn hand<G: Gate>(alloc: Global, uploader: &Uploader, seq: u32, gate: &G) -> Resu
     Ok(Sent { seq, frame })
 }
 
-// Sends the next upload, with this letter. False where none is to be sent.
-fn send_next<D: Disk, G: Gate, R: Wait>(
+// Sends the next upload, with this letter: what it brings is due. False where none is to be sent.
+fn send_next<G: Gate>(
     alloc: Global,
-    rt: &R,
-    book: &SharedBook<D>,
-    pass: &mut Pass,
     uploader: &mut Uploader,
+    due: &mut Due,
     held: &mut Vec<Sent>,
     letter: Letter,
     gate: &G,
-) -> Result<bool, WorkFault>
-    requires book { pass.old.book ≡ book.now.id }
-    requires left { (q : ℕ) → IsNext uploader.old.states q
-        → pass.old.view.begun + length (brings (send q letter) (seqs held.old.items)) ≤ most_calls }
+) -> Result<bool, Memory>
     requires held { All (IsSent uploader.old.host uploader.old.uploads) held.old.items }
+    requires due { IsDue uploader.old.host uploader.old.uploads due.old }
     requires steady { IsSteady uploader.old }
-    ensures book { pass.new.book ≡ pass.old.book }
     ensures same { IsSame uploader.old uploader.new }
-    ensures steady { OnOk result (IsSteady uploader.new) }
-    ensures sends { SendsNext book.now.first.shape book.now.first.room uploader.old.uploads uploader.old.host letter
-        uploader.old.states uploader.new.states held.old.items held.new.items pass.old.view pass.new.view result }
+    ensures steady { IsSteady uploader.new }
+    ensures sends { SendsNext uploader.old.host uploader.old.uploads letter
+        uploader.old.states uploader.new.states held.old.items held.new.items due.old due.new result }
 {
     let Some(seq) = uploader.next() else {
         return Ok(false);
     };
     let sent = hand(alloc, uploader, seq, gate)?;
-    send(alloc, rt, book, pass, uploader, held, sent, letter)?;
+    send(alloc, due, held, sent, letter)?;
     Ok(true)
 }
 
-/// One round, from the letter at that place. It answers the place of the letter that is next.
+/// One round, from the letter at that place. What a window brings is applied in one turn, once no more may be sent before
+/// it; what is held comes last. It answers the place of the letter that is next.
 pub(crate) fn round<D: Disk, G: Gate, R: Wait>(
     alloc: Global,
     rt: &R,
@@ -99,15 +96,20 @@ pub(crate) fn round<D: Disk, G: Gate, R: Wait>(
         (round uploader.old.states (drop from letters.now))
         pass.old.view pass.new.view uploader.old.states uploader.new.states result }
 {
+    let mut due = Due::new(alloc);
     let mut held = Vec::new(alloc);
     let mut at = from;
     'sends: loop {
         let letter = letter_at(letters, at);
-        if !send_next(alloc, rt, book, pass, uploader, &mut held, letter, gate)? {
+        if send_next(alloc, uploader, &mut due, &mut held, letter, gate)? {
+            at = place_after(letters, at);
+        } else if due.is_empty() {
             break;
+        } else {
+            settle(alloc, rt, book, pass, uploader, &mut due)?;
         }
-        at = place_after(letters, at);
     }
-    release(alloc, rt, book, pass, uploader, &held)?;
+    release(alloc, &mut due, &held)?;
+    settle(alloc, rt, book, pass, uploader, &mut due)?;
     Ok(at)
 }

@@ -49,13 +49,14 @@ fn all_rounds<D: Disk, G: Gate, R: Wait>(
 /// deliveries are those of [`link_deliveries`], in that order, one call each.
 ///
 /// Each send writes its upload's frame and hands the bytes to the gate once, before anything comes of it; each delivery
-/// reads the upload back from these bytes, before it waits for its turn. The calls that are left have to be at least
-/// twice the number of uploads and letters, and no upload may be refused.
+/// reads the upload back from these bytes, and then waits for the turn. What a window brings is applied in one turn, once
+/// no more may be sent before it. The calls that are left have to be at least twice the number of uploads and letters, and
+/// no upload may be refused.
 ///
 /// `Refused` comes exactly at the first delivery that the book refuses for another cause than memory: the earlier ones
 /// stand in the list that the pass has seen, and no more is sent. `Memory` comes where there was none for a frame, an
-/// upload or the book; then as well the deliveries before it stand. At every end an acknowledged upload has all its
-/// columns in that list. It may wait forever where the call of another pass does not return.
+/// upload, a turn's answers or the book; the deliveries that were applied before that stand. At every end an acknowledged
+/// upload has all its columns in that list. It may wait forever where the call of another pass does not return.
 pub fn pump<D: Disk + Send, G: Gate, R: Wait>(
     alloc: Global,
     rt: &R,
