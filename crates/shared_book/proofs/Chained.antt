@@ -31,7 +31,8 @@ no_fault k = absurd (cc (k))
 
 module _ {D : Type 0} where
   -- what a journal answers is right for its entries
-  pub is_right : (shape : Shape) (room pass : ℕ) (u : UploadData) (old new : JournalState D) (answer : Result Applied ApplyFault) → old.shape ≡ shape → old.room ≡ room
+  pub is_right : (shape : Shape) (room pass : ℕ) (u : UploadData) (old new : JournalState D) (answer : Result Applied ApplyFault) → old.shape ≡ shape
+      → old.room ≡ room
       → Answers pass u old new answer → IsRight shape room pass u old.entries answer
   is_right shape room pass u old new answer s r a = by answer a
     where
@@ -80,20 +81,30 @@ module _ {D : Type 0} where
       → m.0 ≡ record v { doing = Drew t; begun = v.begun + 1 } → v.doing ≡ Idle → Taken run t m m' slot → slot ≡ Some old
       → old.shape ≡ shape → old.room ≡ room → Answers v.number u old new answer → w ≡ after_turn u m'.0 answer → Serves shape room u v w answer
   serves_first shape room u v w run t m m' slot old new answer drew idle taken is s r a after =
-      let l = subst (λ (o : Option (JournalState D)). Lies (λ (x : JournalState D). x.entries) (λ (x : JournalState D). x.fault) run m.0.seen t taken.list taken.found o) is taken.lies in
+      let l = subst (λ (o : Option (JournalState D)). Lies (λ (x : JournalState D). x.entries) (λ (x : JournalState D). x.fault) run m.0.seen t taken.list
+      taken.found o) is taken.lies in
       let list : List Entry = taken.list in
-      let view : m'.0 ≡ record v { doing = Has t list taken.found; begun = v.begun + 1 } = taken.view ∙ ap (λ (x : View). record x { doing = Has t list taken.found }) drew in
+      let view : m'.0 ≡ record v { doing = Has t list taken.found; begun = v.begun + 1 } = taken.view
+      ∙ ap (λ (x : View). record x { doing = Has t list taken.found }) drew in
       let seen : m.0.seen ≡ v.seen = ap (λ (x : View). x.seen) drew in record {
         list = list;
         begins = subst (λ (es : List Entry). IsPrefix es list) seen taken.seen;
         mine = subst (λ (x : View). of x.number list ≡ of x.number x.seen) drew taken.mine;
         after = after ∙ (ap (λ (x : View). after_turn u x answer) view
-            ∙ (λ i. record v { doing = sym idle i; seen = seen_after v.number u list answer; begun = v.begun + 1; mark = mark_for v.number u list v.mark answer }));
+            ∙ (λ i. record v {
+              doing = sym idle i;
+              seen = seen_after v.number u list answer;
+              begun = v.begun + 1;
+              mark = mark_for v.number u list v.mark
+                  answer;
+            }));
         right = subst (λ (es : List Entry). IsRight shape room v.number u es answer) l.1 (is_right shape room v.number u old new answer s r a);
         marked = λ k.
-            let b = taken.marked (subst Marked (sym (ap (λ (x : View). x.mark) drew)) k) in
-            (b.0 ∙ seen, is_broken v.number u old new answer b.1.0 (l.2 ∙ b.1.1) a
-                ∙ ap (λ (es : List Entry). let x : Result Applied ApplyFault = Err (Broken (length es)) in x) (l.1 ∙ (b.0 ∙ seen)));
+            let b = taken.marked (subst Marked (sym (ap (λ (x : View). x.mark) drew)) k) in (
+              b.0 ∙ seen,
+              is_broken v.number u old new answer b.1.0 (l.2 ∙ b.1.1) a
+                  ∙ ap (λ (es : List Entry). let x : Result Applied ApplyFault = Err (Broken (length es)) in x) (l.1 ∙ (b.0 ∙ seen)),
+            );
       }
 
 -- a pass that was not refused has no mark
@@ -159,7 +170,8 @@ stays_one shape room u v w a s = record {
   begun = ap (λ (x : View). x.begun) s.after;
 }
 
-pub stays : (shape : Shape) (room : ℕ) (us : List UploadData) (v w : View) (ds : List (Result Applied ApplyFault)) → ServesEach shape room us v w ds → Stays v w ds
+pub stays : (shape : Shape) (room : ℕ) (us : List UploadData) (v w : View) (ds : List (Result Applied ApplyFault)) → ServesEach shape room us v w ds
+    → Stays v w ds
 stays shape room [] v w [] s = record {
   live = ap (λ (x : View). x.live) s;
   doing = ap (λ (x : View). x.doing) s;
@@ -181,14 +193,17 @@ stays shape room (u ∷ us) v w (Ok a ∷ ds) s =
       joined = more.joined ∙ one.joined;
       begun = (let a = one.begun in let b = more.begun in omega arith);
     }
-stays shape room (u ∷ us) v w (Err e ∷ ds) s = subst (λ (bs : List (Result Applied ApplyFault)). Stays v w (Err e ∷ bs)) (sym s.1) (stays_one shape room u v w (Err e) s.0)
+stays shape room (u ∷ us) v w (Err e ∷ ds) s = subst (λ (bs : List (Result Applied ApplyFault)). Stays v w (Err e ∷ bs)) (sym s.1)
+    (stays_one shape room u v w (Err e) s.0)
 
-pub few : (shape : Shape) (room : ℕ) (us : List UploadData) (v w : View) (ds : List (Result Applied ApplyFault)) → ServesEach shape room us v w ds → length ds ≤ length us
+pub few : (shape : Shape) (room : ℕ) (us : List UploadData) (v w : View) (ds : List (Result Applied ApplyFault)) → ServesEach shape room us v w ds
+    → length ds ≤ length us
 few shape room [] v w [] s = omega arith
 few shape room [] v w (a ∷ ds) s = absurd s
 few shape room (u ∷ us) v w [] s = absurd s
 few shape room (u ∷ us) v w (Ok a ∷ ds) s = let more = few shape room us s.0 w ds s.2 in omega arith
-few shape room (u ∷ us) v w (Err e ∷ ds) s = subst (λ (bs : List (Result Applied ApplyFault)). let x : List (Result Applied ApplyFault) = Err e ∷ bs in length x ≤ length (u ∷ us)) (sym s.1) (omega arith)
+few shape room (u ∷ us) v w (Err e ∷ ds) s = subst (λ (bs : List (Result Applied ApplyFault)). let x : List
+    (Result Applied ApplyFault) = Err e ∷ bs in length x ≤ length (u ∷ us)) (sym s.1) (omega arith)
 
 -- ---- the turn
 
@@ -246,7 +261,8 @@ upto us n u short is = take_more us n u short ∙ ap (λ (x : UploadData). take 
 whole : (us : List UploadData) (n : ℕ) (u : UploadData) → n < length us → u ≡ get_or us n u → (take n us ++ u ∷ []) ++ drop (n + 1) us ≡ us
 whole us n u short is = ap (λ (l : List UploadData). l ++ drop (n + 1) us) (sym (upto us n u short is)) ∙ take-append-drop (n + 1) us
 
-clear_if : (shape : Shape) (room : ℕ) (u : UploadData) (x y : View) (answer : Result Applied ApplyFault) → Serves shape room u x y answer → IsTaken answer → Marked y.mark → ⊥
+clear_if : (shape : Shape) (room : ℕ) (u : UploadData) (x y : View) (answer : Result Applied ApplyFault) → Serves shape room u x y answer → IsTaken answer
+    → Marked y.mark → ⊥
 clear_if shape room u x y (Ok a) s one = is_clear shape room u x y a s
 clear_if shape room u x y (Err e) s one = absurd one
 
@@ -268,7 +284,8 @@ module _ {D : Type 0} (shape : Shape) (room : ℕ) (us : List UploadData) (v : V
   -- one upload more
   goes_further : (n : ℕ) (u : UploadData) (x : View) (m : Me (Option (JournalState D)) View) (j : JournalState D) (ds : List (Result Applied ApplyFault))
       (answer : Result Applied ApplyFault) → n < length us → u ≡ get_or us n u → AllTaken ds → ServesEach shape room (take n us) v x ds
-      → Serves shape room u x (resting m.0 j.entries m.0.mark) answer → Together v (resting m.0 j.entries m.0.mark) → m.0.begun ≡ v.begun + (n + 1) → m.0.number ≡ v.number → m.0.live ≡ true
+      → Serves shape room u x (resting m.0 j.entries m.0.mark) answer → Together v (resting m.0 j.entries m.0.mark) → m.0.begun ≡ v.begun + (n + 1)
+      → m.0.number ≡ v.number → m.0.live ≡ true
       → (t : ℕ) × (m.0.doing ≡ Has t j.entries j.fault) → m.1 ≡ (0, None) ∷ [] → InTurn (n + 1) m j (ds ++ answer ∷ []) answer
   goes_further n u x m j ds answer short is all each s together count number live turn hand = record {
     inside = omega arith;
@@ -283,8 +300,10 @@ module _ {D : Type 0} (shape : Shape) (room : ℕ) (us : List UploadData) (v : V
           (serves_both shape room (take n us) (u ∷ []) v x y ds (answer ∷ []) all each (serves_one shape room u x y answer s)),
       clear_if shape room u x y answer s one,
     );
-    over = λ refused. subst (λ (l : List UploadData). ServesEach shape room l v y (ds ++ answer ∷ [])) (sym (append_assoc (take n us) (u ∷ []) (drop (n + 1) us)) ∙ whole us n u short is)
-        (serves_both shape room (take n us) (u ∷ drop (n + 1) us) v x y ds (answer ∷ []) all each (serves_last shape room u (drop (n + 1) us) x y answer refused s));
+    over = λ refused. subst (λ (l : List UploadData). ServesEach shape room l v y (ds ++ answer ∷ []))
+        (sym (append_assoc (take n us) (u ∷ []) (drop (n + 1) us)) ∙ whole us n u short is)
+        (serves_both shape room (take n us) (u ∷ drop (n + 1) us) v x y ds (answer ∷ []) all each
+        (serves_last shape room u (drop (n + 1) us) x y answer refused s));
     together = together;
   }
     where
@@ -317,7 +336,8 @@ module _ {D : Type 0} (shape : Shape) (room : ℕ) (us : List UploadData) (v : V
       (omega arith) (ap (λ (z : View). z.number) rests ∙ k.number) (ap (λ (z : View). z.live) rests ∙ k.live) turn hand
 
   -- the end of the turn
-  pub ends_turn : (n : ℕ) (m : Me (Option (JournalState D)) View) (j : JournalState D) (ds : List (Result Applied ApplyFault)) (answer : Result Applied ApplyFault)
+  pub ends_turn : (n : ℕ) (m : Me (Option (JournalState D)) View) (j : JournalState D) (ds : List (Result Applied ApplyFault))
+      (answer : Result Applied ApplyFault)
       → InTurn n m j ds answer → (IsTaken answer → length us ≤ n) → ServesEach shape room us v (resting m.0 j.entries m.0.mark) ds
   ends_turn n m j ds (Ok a) k last =
       subst (λ (l : List UploadData). ServesEach shape room l v (resting m.0 j.entries m.0.mark) ds) (take_all n us (last tt)) (k.going tt).1

@@ -11,7 +11,8 @@ use Rattle.shared_book.proofs.Turning.{Goes}
 module _ {D : Type 0} (honest : D → Type 0) (seen : D → List ℕ) (images : D → List ℕ → Type 0) (moment : D → ℕ)
     (since : D → ℕ → List ℕ → Type 0) (faults : D → ℕ) where
   abbrev pub EndedAt : JournalState D → View → List (Option (JournalState D)) → Type 0
-  EndedAt key v slots = Ended (λ (j : JournalState D). j.entries) (λ (j : JournalState D). j.fault) (Goes honest seen images moment since faults key) key.entries v slots
+  EndedAt key v slots = Ended (λ (j : JournalState D). j.entries) (λ (j : JournalState D). j.fault)
+      (Goes honest seen images moment since faults key) key.entries v slots
 
   pub never_none : (key : JournalState D) (v : View) (slots : List (Option (JournalState D))) (o : Option (JournalState D)) → EndedAt key v slots
       → get_elem? slots 0 ≡ some o → o ≡ None → ⊥

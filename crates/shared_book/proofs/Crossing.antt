@@ -31,10 +31,12 @@ pub journal_send : (D : RattleType) (g : Ghosts D.Denot) → IsSend D → IsSend
 journal_send D g s = search (sendable, crosses, book_send) depth 40
 
 abbrev table_type : (D : RattleType) → Ghosts D.Denot → declared.Declared
-table_type D g = Table.the_type (Option.the_row (journal_row D g)) View.the_row (Snapshot.the_row (journal_row D g)) Turns.the_row Global.the_row (rule.ghosts D g rule.no_dict) heap.ghosts
+table_type D g = Table.the_type (Option.the_row (journal_row D g)) View.the_row (Snapshot.the_row (journal_row D g)) Turns.the_row Global.the_row
+    (rule.ghosts D g rule.no_dict) heap.ghosts
 
 slot_send : (D : RattleType) (g : Ghosts D.Denot) → IsSend D → IsSend (Option.the_row (journal_row D g))
-slot_send D g s = let T = Option.the_type (journal_row D g) in recorded_send (Enum (enumerated.shape T)) T.D T.to T.to_one (enum_send (enumerated.shape T) (tt, ((search (sendable, journal_send D g s) depth 20, tt), tt)))
+slot_send D g s = let T = Option.the_type (journal_row D g) in recorded_send (Enum (enumerated.shape T)) T.D T.to T.to_one
+    (enum_send (enumerated.shape T) (tt, ((search (sendable, journal_send D g s) depth 20, tt), tt)))
 
 heap_send : IsSend Global.the_row
 heap_send = search (sendable, crosses) depth 20
@@ -47,9 +49,21 @@ inside_sync D g s =
     let slot = slot_send D g s in
     let parts : AllSync (declared.fields (table_type D g)) = (
       table.the_sync (Option.the_row (journal_row D g)) View.the_row (Snapshot.the_row (journal_row D g)) Turns.the_row (rule.ghosts D g rule.no_dict) slot,
-      (search sendable depth 20, (search sendable depth 20, (lease.the_sync u64 Global.the_row heap.ghosts heap_send heap_frees, (lease.the_sync (Option.the_row (journal_row D g)) Global.the_row heap.ghosts heap_send heap_frees, (search (sendable, crosses) depth 20, tt))))),
+      (
+        search sendable depth 20,
+        (
+          search sendable depth 20,
+          (
+            lease.the_sync u64 Global.the_row heap.ghosts heap_send heap_frees,
+            (lease.the_sync (Option.the_row (journal_row D g)) Global.the_row heap.ghosts heap_send heap_frees, (search (sendable, crosses) depth 20, tt)),
+          ),
+        ),
+      ),
     ) in
-    let all : AllSync (declared.fields (inside.the_type D g)) = (struct_sync (declared.shape (table_type D g)) parts, (search (sendable, crosses) depth 30, (search sendable depth 30, tt))) in
+    let all : AllSync (declared.fields (inside.the_type D g)) = (
+      struct_sync (declared.shape (table_type D g)) parts,
+      (search (sendable, crosses) depth 30, (search sendable depth 30, tt)),
+    ) in
     let T = inside.the_type D g in recorded_sync (Struct (declared.shape T)) T.D T.to T.to_one (struct_sync (declared.shape T) all)
 
 pub shared_sync : (D : RattleType) (g : Ghosts D.Denot) → IsSend D → IsSync (shared_row D g)

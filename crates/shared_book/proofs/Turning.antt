@@ -33,10 +33,13 @@ module _ {D : Type 0} (honest : D → Type 0) (seen : D → List ℕ) (images : 
   pub looks_from : (key : JournalState D) (start : Option (JournalState D)) (slots id : ℕ) (me : Me (Option (JournalState D)) View) (t : ℕ) → start ≡ Some key
       → me.0.live ≡ true → me.0.doing ≡ Drew t
       → Allows (Locked (λ (j : JournalState D). j.entries) (λ (j : JournalState D). j.fault) (Goes key) key.entries) slots id me 1 (λ n. n)
-      (looked (λ (j : JournalState D). j.entries) (λ (j : JournalState D). j.fault) (GoesFrom honest seen images moment since faults start) (step slots 1 0 0 none) me)
+      (looked (λ (j : JournalState D). j.entries) (λ (j : JournalState D). j.fault) (GoesFrom honest seen images moment since faults start)
+      (step slots 1 0 0 none) me)
   looks_from key start slots id me t is alive drew =
-      subst (λ (o : Option (JournalState D)). Allows (Locked (λ (j : JournalState D). j.entries) (λ (j : JournalState D). j.fault) (Goes key) key.entries) slots id me 1 (λ n. n)
-      (looked (λ (j : JournalState D). j.entries) (λ (j : JournalState D). j.fault) (GoesFrom honest seen images moment since faults o) (step slots 1 0 0 none) me)) (sym is)
+      subst (λ (o : Option (JournalState D)). Allows (Locked (λ (j : JournalState D). j.entries) (λ (j : JournalState D). j.fault) (Goes key) key.entries)
+      slots id me 1 (λ n. n)
+      (looked (λ (j : JournalState D). j.entries) (λ (j : JournalState D). j.fault) (GoesFrom honest seen images moment since faults o)
+      (step slots 1 0 0 none) me)) (sym is)
       (looks (λ (j : JournalState D). j.entries) (λ (j : JournalState D). j.fault) (Goes key) key.entries slots id me t alive drew)
 
   -- what an answer leaves of the shape, the room and the fault
@@ -83,7 +86,8 @@ module _ {D : Type 0} (honest : D → Type 0) (seen : D → List ℕ) (images : 
     was = λ h. f.was (was h);
     later = omega arith;
     rose = λ e k. ⊎_elim (λ (q : old.fault ≡ Some e). let z : Rose (faults from.disk) (faults old.disk) = f.rose e q in le_trans z later)
-        (λ (q : result ≡ Err DiskFault). let z : Rose (faults old.disk) (faults new.disk) = cause q in le_trans (rises (faults from.disk) (faults old.disk) low) z) (l.fault e k);
+        (λ (q : result ≡ Err DiskFault). let z : Rose (faults old.disk) (faults new.disk) = cause q in le_trans
+        (rises (faults from.disk) (faults old.disk) low) z) (l.fault e k);
     runs = λ h. runs (start_of seen moment from) (f.runs h);
   }
     where
@@ -94,7 +98,8 @@ module _ {D : Type 0} (honest : D → Type 0) (seen : D → List ℕ) (images : 
   pub taken_here : (key : JournalState D) (t : ℕ) (m m' : Me (Option (JournalState D)) View) (slot : Option (JournalState D)) (j : JournalState D)
       → Taken (Goes key) t m m' slot → slot ≡ Some j → (m'.0.doing ≡ Has t j.entries j.fault) × Goes key j
   taken_here key t m m' slot j k is =
-      let l = subst (λ (o : Option (JournalState D)). Lies (λ (x : JournalState D). x.entries) (λ (x : JournalState D). x.fault) (Goes key) m.0.seen t k.list k.found o) is k.lies in
+      let l = subst (λ (o : Option (JournalState D)). Lies (λ (x : JournalState D). x.entries) (λ (x : JournalState D). x.fault)
+      (Goes key) m.0.seen t k.list k.found o) is k.lies in
       (ap (λ (v : View). v.doing) k.view ∙ (λ i. Has t (sym l.1 i) (sym l.2 i)), l.3)
 
 -- what lies in a slot that is held

@@ -255,7 +255,7 @@ fn mark_pass<D: Disk>(top: &Top<D>, seat: &mut Place<D>, journal: Journal<D>) ->
     ensures turn { (t : ℕ) × (seat.new.me.0.doing ≡ Has t journal.entries journal.fault) }
     ensures rests { resting seat.new.me.0 journal.entries seat.new.me.0.mark
         ≡ resting seat.old.me.0 journal.entries
-            (mark_after (found_by seat.old.me.0.doing) journal.fault seat.old.me.0.mark) }
+        (mark_after (found_by seat.old.me.0.doing) journal.fault seat.old.me.0.mark) }
 {
     give_back(top, seat, journal);
     top.swap::<Break>(seat, 3, 1);

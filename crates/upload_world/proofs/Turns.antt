@@ -122,7 +122,8 @@ module _ (shape : Shape) (room : ℕ) (ups : List UploadData) (own : ℕ) (due :
       let u_is : u ≡ upload_at ups c.seq
       = g.upload ∙ (ap (λ (l : List UploadData). get_or l i u) is.uploads
       ∙ (get_or-map (λ (x : Delivery). upload_at ups x.seq) (dues due) i d u in_order ∙ ap (λ (x : Delivery). upload_at ups x.seq) (sym d_is))) in
-      let short = subst (λ (x : Delivery). x.seq < length ups) (sym d_is) (All-get_or (λ (x : Delivery). x.seq < length ups) (dues due) i d in_order is.short) in
+      let short = subst (λ (x : Delivery). x.seq < length ups) (sym d_is)
+      (All-get_or (λ (x : Delivery). x.seq < length ups) (dues due) i d in_order is.short) in
       let named = subst (λ (x : Delivery). ((upload_at ups x.seq).host ≡ own) × ((upload_at ups x.seq).seq ≡ x.seq)) (sym d_is)
       (All-get_or (λ (x : Delivery). ((upload_at ups x.seq).host ≡ own) × ((upload_at ups x.seq).seq ≡ x.seq)) (dues due) i d in_order is.named) in
       let us_on : drop i us ≡ u ∷ drop (i + 1) us

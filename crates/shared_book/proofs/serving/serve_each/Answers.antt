@@ -17,7 +17,7 @@ apply_here-journal-requires-clause-turn g c = (
 pub apply_here-journal-requires-clause-goes : goal.apply_here-journal-requires-clause-goes
 apply_here-journal-requires-clause-goes g c =
     (taken_here g.D.Disk.honest g.D.Disk.seen g.D.Disk.images g.D.Disk.moment g.D.Disk.since g.D.Disk.faults c.args.top.now.key.value
-        c.draw_ticket-ticket.result c.draw_ticket-ticket.new.seat.me c.take.new.seat.me c.take.result c.in-Some.journal c.take.ensures.taken c.in-Some.is).1
+    c.draw_ticket-ticket.result c.draw_ticket-ticket.new.seat.me c.take.new.seat.me c.take.result c.in-Some.journal c.take.ensures.taken c.in-Some.is).1
 
 pub calls-init : goal.calls-init
 calls-init g c =
@@ -68,7 +68,8 @@ calls-preserved g c =
           (goes_on_with key.shape key.room a.uploads.now a.seat.now.me.0 l.at c.index-uploads-at.result l.seat.me c.apply_here-next.new.seat.me
           l.journal c.apply_here-next.result.0 l.answers.items l.answer c.apply_here-next.result.1 k (search rules) c.calls-test.true c.index-uploads-at.is
           l.invariant.goes.shape l.invariant.goes.room
-          (subst (λ n. Answers n c.index-uploads-at.result l.journal c.apply_here-next.result.0 c.apply_here-next.result.1) (ap (λ m. m.0.number) began) did.answers)
+          (subst (λ n. Answers n c.index-uploads-at.result l.journal c.apply_here-next.result.0 c.apply_here-next.result.1)
+          (ap (λ m. m.0.number) began) did.answers)
           (did.rests ∙ ap (λ m. after_turn c.index-uploads-at.result m.0 c.apply_here-next.result.1) began)
           did.turn did.hand);
       count = search rules;

@@ -9,5 +9,6 @@ fetch_add-requires g c = (
   search rules,
   search rules,
   draws (λ (j : JournalState g.row.D.Denot). j.entries) (λ (j : JournalState g.row.D.Denot). j.fault)
-      (GoesOn g.D.Disk.honest g.D.Disk.seen g.D.Disk.images g.D.Disk.moment g.D.Disk.since g.D.Disk.faults c.args.top.now.key.value) c.args.top.now.key.value.entries _ _ _ c.requires.live c.requires.idle c.requires.left,
+      (GoesOn g.D.Disk.honest g.D.Disk.seen g.D.Disk.images g.D.Disk.moment g.D.Disk.since g.D.Disk.faults c.args.top.now.key.value)
+      c.args.top.now.key.value.entries _ _ _ c.requires.live c.requires.idle c.requires.left,
 )

@@ -10,7 +10,8 @@ fetch_add-served-requires g c =
       search rules,
       search rules,
       passes (λ (j : JournalState g.row.D.Denot). j.entries) (λ (j : JournalState g.row.D.Denot). j.fault)
-          (GoesOn g.D.Disk.honest g.D.Disk.seen g.D.Disk.images g.D.Disk.moment g.D.Disk.since g.D.Disk.faults c.args.top.now.key.value) c.args.top.now.key.value.entries _ _ _
+          (GoesOn g.D.Disk.honest g.D.Disk.seen g.D.Disk.images g.D.Disk.moment g.D.Disk.since g.D.Disk.faults c.args.top.now.key.value)
+          c.args.top.now.key.value.entries _ _ _
           c.requires.turn.0 c.args.journal.entries c.args.journal.fault c.args.journal
           (ap (λ m. m.0.live) held ∙ c.requires.live) (ap (λ m. m.0.doing) held ∙ c.requires.turn.1) (ap (λ m. m.1) held) refl refl c.requires.goes,
     )

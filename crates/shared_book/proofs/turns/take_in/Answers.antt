@@ -15,7 +15,9 @@ join_seat-requires g c = (
   search rules,
   search rules,
   joins (λ (j : JournalState g.row.D.Denot). j.entries) (λ (j : JournalState g.row.D.Denot). j.fault)
-      (GoesOn g.D.Disk.honest g.D.Disk.seen g.D.Disk.images g.D.Disk.moment g.D.Disk.since g.D.Disk.faults c.args.top.now.key.value) c.args.top.now.key.value.entries _ _ _ _ c.requires.live.0 c.requires.numbers.0 c.requires.idle.0 c.requires.live.1 c.requires.numbers.1 c.requires.idle.1,
+      (GoesOn g.D.Disk.honest g.D.Disk.seen g.D.Disk.images g.D.Disk.moment g.D.Disk.since g.D.Disk.faults c.args.top.now.key.value)
+      c.args.top.now.key.value.entries _ _ _ _ c.requires.live.0 c.requires.numbers.0 c.requires.idle.0 c.requires.live.1 c.requires.numbers.1
+      c.requires.idle.1,
 )
 
 pub load-requires : goal.load-requires
@@ -24,9 +26,11 @@ load-requires g c =
       search rules,
       search rules,
       gains (λ (j : JournalState g.row.D.Denot). j.entries) (λ (j : JournalState g.row.D.Denot). j.fault)
-          (GoesOn g.D.Disk.honest g.D.Disk.seen g.D.Disk.images g.D.Disk.moment g.D.Disk.since g.D.Disk.faults c.args.top.now.key.value) c.args.top.now.key.value.entries _ _ _
+          (GoesOn g.D.Disk.honest g.D.Disk.seen g.D.Disk.images g.D.Disk.moment g.D.Disk.since g.D.Disk.faults c.args.top.now.key.value)
+          c.args.top.now.key.value.entries _ _ _
           (joined_of c.args.other.me.0) c.args.seat.now.me.0.joined
-          (ap (λ m. m.0.live) now ∙ c.requires.live.0) (ap (λ m. m.0.number) now ∙ c.requires.numbers.0) (ap (λ m. m.0.doing) now ∙ c.requires.idle.0) (ap (λ m. m.0.joined) now),
+          (ap (λ m. m.0.live) now ∙ c.requires.live.0) (ap (λ m. m.0.number) now ∙ c.requires.numbers.0) (ap (λ m. m.0.doing) now ∙ c.requires.idle.0)
+          (ap (λ m. m.0.joined) now),
     )
 
 pub returns-clause-hand : goal.returns-clause-hand

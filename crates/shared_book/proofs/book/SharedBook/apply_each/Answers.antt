@@ -32,7 +32,8 @@ pub invariant_of-pass : goal.invariant_of-pass
 invariant_of-pass g c =
     let s = stays _ _ _ _ _ _ c.serve_each.ensures.serves in
     let i = c.pass.invariant in
-    let was : head_view c.pass.inside.badge.views ≡ c.into_seat-seat.result.me.0 = ap head_view (sym (ap (λ b. b.views) c.replace.ensures.value) ∙ c.into_seat-seat.ensures.2) in
+    let was : head_view c.pass.inside.badge.views ≡ c.into_seat-seat.result.me.0 = ap head_view
+    (sym (ap (λ b. b.views) c.replace.ensures.value) ∙ c.into_seat-seat.ensures.2) in
     let here = c.into_badge.ensures.2 in
     let now = ap head_view here in
     let below = few _ _ _ _ _ _ c.serve_each.ensures.serves in

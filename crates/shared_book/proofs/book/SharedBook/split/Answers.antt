@@ -15,5 +15,6 @@ split_seat-other-requires g c =
       search rules,
       search rules,
       splits (λ (j : JournalState g.row.D.Denot). j.entries) (λ (j : JournalState g.row.D.Denot). j.fault)
-          (GoesOn g.D.Disk.honest g.D.Disk.seen g.D.Disk.images g.D.Disk.moment g.D.Disk.since g.D.Disk.faults c.self.inside.table.shared.key.value) c.self.inside.table.shared.key.value.entries _ v alive one idle few,
+          (GoesOn g.D.Disk.honest g.D.Disk.seen g.D.Disk.images g.D.Disk.moment g.D.Disk.since g.D.Disk.faults c.self.inside.table.shared.key.value)
+          c.self.inside.table.shared.key.value.entries _ v alive one idle few,
     )
