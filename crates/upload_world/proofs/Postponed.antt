@@ -79,8 +79,8 @@ later_next ss ds q all n =
 one_sent : (ss : List SeqState) (d : Delivery) (q : ℕ) → IsOut ss d.seq → state_at ss q ≡ Idle
     → set (acknowledge_one ss d) q Outstanding ≡ acknowledge_one (set ss q Outstanding) d
 one_sent ss d q out idle =
-    elim d.heard as (λ b. set (cond b (set ss d.seq Acknowledged) ss) q Outstanding ≡ cond b (set (set ss q Outstanding) d.seq Acknowledged)
-    (set ss q Outstanding)) [
+    let now = set ss q Outstanding in
+    elim d.heard as (λ b. set (cond b (set ss d.seq Acknowledged) ss) q Outstanding ≡ cond b (set now d.seq Acknowledged) now) [
       | true ↦ set_comm ss d.seq q Acknowledged Outstanding (apart ss d.seq q out idle)
       | false ↦ refl
     ]

@@ -63,11 +63,10 @@ module _ (shape : Shape) (room : ℕ) (ups : List UploadData) (ss0 : List SeqSta
   room_now ss held ds ls v s = let fits = s.fits in omega arith
 
   -- after a send
-  pub sends : (host' : ℕ) (ups' : List UploadData) (ss ts : List SeqState) (held kept : List Sent) (old new : Due) (ls ms : List Letter) (v : View)
-      (letter : Letter)
-      → letter ≡ letter_of ls → ms ≡ drop 1 ls
-      → Stands ss held (dues old) ls v → SentNext host' ups' letter ss ts held kept old new → Stands ts kept (dues new) ms v
-  sends host' ups' ss ts held kept old new ls ms v letter is next s t =
+  pub sends : (host : ℕ) (ups' : List UploadData) (ss ts : List SeqState) (held kept : List Sent) (old new : Due) (ls ms : List Letter) (v : View)
+      (letter : Letter) → letter ≡ letter_of ls → ms ≡ drop 1 ls
+      → Stands ss held (dues old) ls v → SentNext host ups' letter ss ts held kept old new → Stands ts kept (dues new) ms v
+  sends host ups' ss ts held kept old new ls ms v letter is next s t =
       let ds = dues old in
       let es = dues new in
       let hs = seqs held in
@@ -119,8 +118,7 @@ module _ (shape : Shape) (room : ℕ) (ups : List UploadData) (ss0 : List SeqSta
       let here : Stands ts held [] ls w = record {
         made = s.made ++ ds;
         place = moved ss0 ls0 ((s.made ++ ds) ++ []) (s.made ++ ds) ts (acknowledge ss ds) (seqs held) (seqs held) ls ls
-            (append-nil (s.made ++ ds)) is refl refl
-            s.place;
+            (append-nil (s.made ++ ds)) is refl refl s.place;
         went = both_went shape room ups ups' s.made ds v0 v w ss0 ss ts same s.went went;
         out = All-nil _;
         fits = omega arith;

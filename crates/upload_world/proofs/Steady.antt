@@ -1,12 +1,11 @@
 -- What acknowledging keeps.
-use Rattle.std.proofs.Common.{◌≡◌, true, false, cond, List, [], ◌∷◌, length, set, refl, sym, ap, Result, Ok, Err, OnOk, ◌∙◌, arith, length-set}
+use Rattle.std.proofs.Common.{◌≡◌, true, false, cond, List, [], ◌∷◌, length, set, refl, sym, ap, ◌∙◌, arith, length-set}
 use Rattle.uploader_core.specs.declared.state.SeqState.{SeqState}
 use Rattle.uploader_core.specs.declared.state.SeqState.TheVariants as states
 use Rattle.link_deliveries.specs.Waiting.{is_refused, refusals}
 use Rattle.link_deliveries.specs.Deliveries.{Delivery, acknowledge, acknowledge_one}
 use Rattle.link_deliveries.proofs.Progress.{acknowledged_down}
 use Rattle.uploader_core.specs.Uploader.{UploaderState}
-use Rattle.upload_world.specs.declared.fault.WorkFault.{WorkFault}
 use Rattle.upload_world.specs.Pumping.{IsSteady}
 
 pub length-acknowledge : (ss : List SeqState) (ds : List Delivery) → length (acknowledge ss ds) ≡ length ss
@@ -21,8 +20,3 @@ steady_acknowledged u w ds s ups is =
     let none = s.none in
     let same : refusals w.states ≡ refusals (acknowledge u.states ds) = ap refusals is in
     record { each = ap length is ∙ (length-acknowledge u.states ds ∙ (s.each ∙ ap length (sym ups))); none = omega (arith, down, none, same) }
-
-pub steady_after : {A : Type 0} (u w : UploaderState) (ds : List Delivery) (r : Result A WorkFault) → IsSteady u → w.uploads ≡ u.uploads
-    → OnOk r (w.states ≡ acknowledge u.states ds) → OnOk r (IsSteady w)
-steady_after u w ds (Ok a) s ups is = steady_acknowledged u w ds s ups is
-steady_after u w ds (Err f) s ups is = tt

@@ -122,10 +122,10 @@ module _ (shape : Shape) (room : ℕ) (ups : List UploadData) (own : ℕ) (due :
       let u_is : u ≡ upload_at ups c.seq
       = g.upload ∙ (ap (λ (l : List UploadData). get_or l i u) is.uploads
       ∙ (get_or-map (λ (x : Delivery). upload_at ups x.seq) (dues due) i d u in_order ∙ ap (λ (x : Delivery). upload_at ups x.seq) (sym d_is))) in
-      let short = subst (λ (x : Delivery). x.seq < length ups) (sym d_is)
-      (All-get_or (λ (x : Delivery). x.seq < length ups) (dues due) i d in_order is.short) in
-      let named = subst (λ (x : Delivery). ((upload_at ups x.seq).host ≡ own) × ((upload_at ups x.seq).seq ≡ x.seq)) (sym d_is)
-      (All-get_or (λ (x : Delivery). ((upload_at ups x.seq).host ≡ own) × ((upload_at ups x.seq).seq ≡ x.seq)) (dues due) i d in_order is.named) in
+      let Short : Delivery → Type 0 = λ x. x.seq < length ups in
+      let Named : Delivery → Type 0 = λ x. ((upload_at ups x.seq).host ≡ own) × ((upload_at ups x.seq).seq ≡ x.seq) in
+      let short = subst Short (sym d_is) (All-get_or Short (dues due) i d in_order is.short) in
+      let named = subst Named (sym d_is) (All-get_or Named (dues due) i d in_order is.named) in
       let us_on : drop i us ≡ u ∷ drop (i + 1) us
       = drop_more us i u within ∙ ap (λ (x : UploadData). x ∷ drop (i + 1) us) (sym g.upload) in
       let bs_on : drop i bs ≡ a ∷ drop (i + 1) bs
