@@ -8,6 +8,7 @@ use column_book::{ROOM, Shape};
 use lg_disk::{Disk, MemoryDisk};
 use lg_model::Hash;
 use shared_book::{Pass, SharedBook, share};
+use sketchlet_wire::Upload;
 use std::alloc::{AllocFailed, Global};
 use std::sync::Wait;
 use std::thread::{self, Threads};
