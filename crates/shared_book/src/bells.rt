@@ -12,7 +12,12 @@ const BELLS: usize = 64;
 // A pass whose turn is at most so many turns away stays awake for a while.
 const NEAR: u64 = 1;
 
-/// A bell for each remainder of a ticket by 64: 1 while a pass may sleep at it, else 0.
+// The marks of a bell at which a pass may sleep: until its turn, and until it is near.
+const LATE: u32 = 1;
+
+const EARLY: u32 = 2;
+
+/// A bell for each remainder of a ticket by 64: the mark of the pass that may sleep at it, or 0.
 #[derive(Drop)]
 pub(crate) struct Bells {
     bells: [AtomicU64; BELLS],
@@ -35,27 +40,32 @@ impl Bells {
         ticket.wrapping_sub(serving) <= NEAR
     }
 
-    /// Tells that a pass with this ticket is going to sleep. Its next look comes after this, and it sleeps only where that
-    /// look shows no change: so a turn that is passed on in between is not missed.
-    pub(crate) fn lie_down(&self, ticket: u64) {
-        self.of(ticket).store(1, SeqCst);
+    /// Tells that a pass with this ticket is going to sleep, until its turn comes or, as it wants, is near; and answers the
+    /// mark that it leaves. Its next look comes after this, and it sleeps only where that look shows no change: so a turn
+    /// that is passed on in between is not missed.
+    pub(crate) fn lie_down(&self, ticket: u64, early: bool) -> u32 {
+        let mark = if early { EARLY } else { LATE };
+        self.of(ticket).store(u64::from(mark), SeqCst);
+        mark
     }
 
-    /// Sleeps until the bell of the ticket rings, unless it rang since the pass lay down. It may wake for no reason.
-    pub(crate) fn sleep<R: Wait>(&self, rt: &R, ticket: u64) {
-        self.of(ticket).park(rt, 1);
+    /// Sleeps until the bell of the ticket rings, unless it rang since the pass lay down with that mark. It may wake for no
+    /// reason.
+    pub(crate) fn sleep<R: Wait>(&self, rt: &R, ticket: u64, mark: u32) {
+        self.of(ticket).park(rt, mark);
     }
 
-    fn ring(&self, ticket: u64) {
+    // Wakes who sleeps at the bell of the ticket, with that mark or a greater one.
+    fn ring(&self, ticket: u64, least: u32) {
         let bell = self.of(ticket);
-        if bell.swap(0, SeqCst) == 1 {
+        if bell.load(SeqCst) >= u64::from(least) && bell.swap(0, SeqCst) > 0 {
             bell.wake_all();
         }
     }
 
     /// Wakes the pass whose ticket is serving now, and the one whose turn is near from now on, where they sleep.
     pub(crate) fn ring_for(&self, serving: u64) {
-        self.ring(serving);
-        self.ring(serving.wrapping_add(NEAR));
+        self.ring(serving, LATE);
+        self.ring(serving.wrapping_add(NEAR), EARLY);
     }
 }

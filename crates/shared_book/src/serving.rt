@@ -65,7 +65,7 @@ pub(crate) fn serve<D: Disk, R: Wait>(
         seat.old.me.0 seat.new.me.0 result }
 {
     let ticket = draw_ticket(top, seat);
-    let Some(journal) = take::<D, Brand, R>(rt, top, bells, seat, ticket) else {
+    let Some(journal) = take::<D, Brand, R>(rt, top, bells, seat, ticket, true) else {
         unreachable!()
     };
     let (journal, answer) = apply_here(top, seat, journal, number, upload);
@@ -99,7 +99,7 @@ pub(crate) fn serve_each<D: Disk, R: Wait>(
     ensures together { Together seat.old.me.0 seat.new.me.0 }
 {
     let ticket = draw_ticket(top, seat);
-    let Some(journal) = take::<D, Brand, R>(rt, top, bells, seat, ticket) else {
+    let Some(journal) = take::<D, Brand, R>(rt, top, bells, seat, ticket, false) else {
         unreachable!()
     };
     let (journal, answer) = apply_here(top, seat, journal, number, &uploads[0]);

@@ -132,8 +132,8 @@ pub(crate) fn draw_ticket<D: Disk>(top: &Top<D>, seat: &mut Place<D>) -> u64
     top.fetch_add::<Draw>(seat, 0, 1)
 }
 
-// Lets other threads run before the next look, where the turn is near; else, and after some looks, it sleeps until the
-// bell of the ticket rings.
+// Lets other threads run before the next look, where a turn that is soon over is waited for and the own one is near; else,
+// and after some looks, it sleeps until the bell of the ticket rings.
 fn wait<D: Disk, R: Wait>(
     rt: &R,
     top: &Top<D>,
@@ -141,26 +141,28 @@ fn wait<D: Disk, R: Wait>(
     ticket: u64,
     serving: u64,
     looks: u32,
+    soon: bool,
 )
     requires words { top.now.table_id.words ≡ 4 }
 {
-    if looks < LOOKS && Bells::is_near(ticket, serving) {
+    if soon && looks < LOOKS && Bells::is_near(ticket, serving) {
         thread::yield_now();
         return;
     }
-    bells.lie_down(ticket);
+    let mark = bells.lie_down(ticket, soon);
     if top.peek(1) == serving {
-        bells.sleep(rt, ticket);
+        bells.sleep(rt, ticket, mark);
     }
 }
 
-/// Looks until the ticket is serving, and takes the journal out of the slot.
+/// Looks until the ticket is serving, and takes the journal out of the slot. Turns are thought to be over soon, or not.
 pub(crate) fn take<D: Disk, O: Origin<Journal<D>>, R: Wait>(
     rt: &R,
     top: &Top<D>,
     bells: &Bells,
     seat: &mut Place<D>,
     ticket: u64,
+    soon: bool,
 ) -> Option<Journal<D>>
     requires table { IsAt seat.old top.now.table_id }
     requires live { seat.old.me.0.live ≡ true }
@@ -177,7 +179,7 @@ pub(crate) fn take<D: Disk, O: Origin<Journal<D>>, R: Wait>(
         if serving == ticket {
             return top.exchange(seat, 0, None);
         }
-        wait(rt, top, bells, ticket, serving, looks);
+        wait(rt, top, bells, ticket, serving, looks, soon);
         looks = looks.saturating_add(1);
     }
     unreachable!()
