@@ -6,3 +6,4 @@ pub mod Spellings
 pub mod FrameSpelled
 pub mod ReplySpelled
 pub mod PieceBytes
+pub mod PackedSpelled

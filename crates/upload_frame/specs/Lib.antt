@@ -5,3 +5,4 @@ pub mod Replies
 pub mod Sides
 pub mod Law
 pub mod Worked
+pub mod Pooled

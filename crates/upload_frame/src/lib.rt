@@ -4,6 +4,7 @@
 //! |---|---|
 //! | [`Frame`], [`Reply`], [`RefusedWhy`] | what is sent |
 //! | [`write_frame`], [`write_upload`], [`write_reply`] | the one spelling of a frame, of the frame of an upload that is lent, of a reply |
+//! | [`write_packed`] | the frame of an upload whose columns are kept packed |
 //! | [`Reader`], [`ReplyReader`] | take frames and replies off a stream |
 //! | [`frames_of`] | the frames of a whole stream, by its pieces |
 //! | [`read_upload`] | the upload of a whole frame |
@@ -25,6 +26,7 @@ mod reply_fields;
 mod stream;
 mod upload_fields;
 mod writing;
+mod writing_packed;
 mod writing_replies;
 
 pub use fault::{FrameFault, NextFault};
@@ -34,6 +36,7 @@ pub use pieces::frames_of;
 pub use reader::{Reader, ReplyReader, read_upload};
 pub use reply::{RefusedWhy, Reply};
 pub use writing::{write_frame, write_upload};
+pub use writing_packed::write_packed;
 pub use writing_replies::write_reply;
 
 #[cfg(test)]

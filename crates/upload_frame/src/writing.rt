@@ -40,7 +40,7 @@ fn put_columns(out: &mut [u8], columns: &[Column])
 }
 
 // The ten bytes before the columns of an upload: length, kind, host, number and count.
-fn upload_head(len: u16, host: u16, seq: u32, count: u8) -> [u8; 10]
+pub(crate) fn upload_head(len: u16, host: u16, seq: u32, count: u8) -> [u8; 10]
     ensures { result ≡ to_be_bytes w16 len ++ 2 ∷ (to_be_bytes w16 host ++ (to_be_bytes w32 seq ++ count ∷ [])) }
 {
     let mut out = [0; 10];
