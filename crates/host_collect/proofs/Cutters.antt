@@ -20,13 +20,13 @@ enumerate_last {X = X} a (y ∷ xs) x =
 abbrev as_upload : ℕ → ℕ × Piece → UploadData
 as_upload host p = upload_of host p.0 p.1
 
-numbered_more : (host : ℕ) (ps : List Piece) (p : Piece) → numbered host (ps ++ p ∷ []) ≡ numbered host ps ++ upload_of host (length ps) p ∷ []
+pub numbered_more : (host : ℕ) (ps : List Piece) (p : Piece) → numbered host (ps ++ p ∷ []) ≡ numbered host ps ++ upload_of host (length ps) p ∷ []
 numbered_more host ps p =
     let last : enumerate_from 0 (ps ++ p ∷ []) ≡ enumerate_from 0 ps ++ (length ps, p) ∷ [] =
     enumerate_last 0 ps p ∙ ap (λ (n : ℕ). enumerate_from 0 ps ++ (n, p) ∷ []) (omega arith) in
     ap (map (as_upload host)) last ∙ map-append (as_upload host) (enumerate_from 0 ps) ((length ps, p) ∷ [])
 
-numbered_len : (host : ℕ) (ps : List Piece) → length (numbered host ps) ≡ length ps
+pub numbered_len : (host : ℕ) (ps : List Piece) → length (numbered host ps) ≡ length ps
 numbered_len host ps = length-map (enumerate_from 0 ps) (as_upload host) ∙ length-enumerate_from 0 ps
 
 -- Two lists with a last item each.

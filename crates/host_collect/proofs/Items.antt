@@ -27,7 +27,7 @@ read x = Ok x
 read_same : (x y : Column × ℕ) → read x ≡ read y → x ≡ y
 read_same x y e = cc
 
-packed_read : (p : Packed) (c : Column) → IsPacked p c → column_reading (packed_bytes p) ≡ Ok (c, length (packed_bytes p))
+pub packed_read : (p : Packed) (c : Column) → IsPacked p c → column_reading (packed_bytes p) ≡ Ok (c, length (packed_bytes p))
 packed_read p c is = is_whole (packed_bytes p) c is.column is.bytes
 
 pub packed_same : (p : Packed) (c d : Column) → IsPacked p c → IsPacked p d → c ≡ d
@@ -45,7 +45,7 @@ packed_passes p c n (Longer k) is h =
     absurd (omega (arith, ap (λ (x : Column × ℕ). x.1) same, h.4))
 packed_passes p c n Memory is h = refl
 
-matched_same : (items : List Packed) (cs ds : List Column) → Matched IsPacked items cs → Matched IsPacked items ds → cs ≡ ds
+pub matched_same : (items : List Packed) (cs ds : List Column) → Matched IsPacked items cs → Matched IsPacked items ds → cs ≡ ds
 matched_same [] [] [] a b = refl
 matched_same [] [] (d ∷ ds) a b = absurd b
 matched_same [] (c ∷ cs) ds a b = absurd a
