@@ -3,6 +3,7 @@
 //! | Item | What it is |
 //! |---|---|
 //! | [`Uploader`] | the uploads of a host, and how far each is |
+//! | [`Uploads`] | what it needs of the uploads, however they are kept |
 //! | [`are_own`] | whether uploads are those of a host by their numbers, as [`Uploader::new`] needs them |
 //! | [`SeqState`] | how far an upload is: idle, outstanding, acknowledged or refused |
 //! | [`Refused`] | an upload that the analyser refuses for good, and why |
@@ -16,11 +17,13 @@ mod refused;
 mod state;
 mod states;
 mod uploader;
+mod uploads;
 
 pub use lg_base::Memory;
 pub use refused::Refused;
 pub use state::SeqState;
 pub use uploader::{Uploader, are_own};
+pub use uploads::Uploads;
 
 #[cfg(test)]
 mod tests;

@@ -5,7 +5,7 @@ use lg_model::{Bucket, Dims, Key};
 use sketchlet_wire::{Column, Upload};
 use std::alloc::Global;
 use std::test::Fail;
-use upload_frame::{RefusedWhy, Reply};
+use upload_frame::{RefusedWhy, Reply, write_upload};
 
 // Uploads of one column each, of host 7, numbered from `first`.
 fn uploads(alloc: Global, first: u32, count: u32) -> Result<Vec<Upload>, Fail> {
@@ -137,4 +137,19 @@ fn replies_change_states(rt: HostRuntime) -> Result<(), Fail> {
     }
     uploader.tick();
     sends(&mut uploader, &[None])
+}
+
+#[test]
+fn each_frame_is_that_of_its_upload(rt: HostRuntime) -> Result<(), Fail> {
+    let alloc = rt.alloc();
+    let uploader = uploader(alloc, 3)?;
+    for seq in 0..uploader.len() {
+        let own = write_upload(alloc, uploader.upload(seq))?;
+        assert_eq!(rt;
+            uploader.frame(alloc, seq)?.as_slice() == own.as_slice(),
+            true,
+            "{seq}"
+        );
+    }
+    Ok(())
 }

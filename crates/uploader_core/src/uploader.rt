@@ -1,13 +1,14 @@
 //! The uploads of a host on their way to the analyser.
 ghost use Rattle.std.specs.Prelude.{◌≡◌, ◌↔◌, ◌<◌, Some, None, IsTrue, length, replicate, slice_get, vec_len, IfOk, IfSome, MatchOption, MatchResult};
-ghost use Rattle.std.specs.List.{AllByRecursion};
-ghost use Rattle.sketchlet_wire.specs.Uploads.{IsFull};
+ghost use Rattle.sketchlet_wire.specs.Uploads.{UploadData, IsFull};
+ghost use Rattle.upload_frame.specs.Frames.{frame_of};
 ghost use Rattle.uploader_core.specs.declared.state.SeqState.TheVariants.{Idle};
 ghost use Rattle.uploader_core.specs.States.{state_at, next_of, sent, ticked, is_acknowledged};
 ghost use Rattle.uploader_core.specs.Uploader.{UploaderState, AreOwn, IsUploader, NoneAcked, replied, refusal_in, is_done};
 
 use crate::refused::Refused;
 use crate::states::States;
+use crate::uploads::Uploads;
 use lg_base::Memory;
 use sketchlet_wire::Upload;
 use std::alloc::Global;
@@ -15,25 +16,26 @@ use std::marker::Model;
 use upload_frame::Reply;
 
 /// The uploads of a host, and how far each is: idle, outstanding, acknowledged or refused. At the start all are idle. At
-/// most 8 are outstanding. Only [`Uploader::new`] takes memory.
+/// most 8 are outstanding. `U` is how the uploads are kept. Only [`Uploader::new`], [`Uploader::over`] and
+/// [`Uploader::frame`] take memory.
 #[derive(Debug, Drop)]
-pub struct Uploader {
+pub struct Uploader<U: Uploads = Vec<Upload>> {
     host: u16,
-    uploads: Vec<Upload>,
+    uploads: U,
     states: States,
 }
 
-impl Model for Uploader {
+impl<U: Uploads> Model for Uploader<U> {
     ghost use Rattle.uploader_core.specs.Uploader.{UploaderState, IsUploader};
 
     ghost Value = { UploaderState };
 
-    ghost view = { λ u. record { host = u.host; uploads = u.uploads.items; states = u.states } };
+    ghost view = { λ u. record { host = u.host; uploads = U.listed u.uploads; states = u.states } };
 
-    ghost invariant = { λ u. IsUploader (record { host = u.host; uploads = u.uploads.items; states = u.states }) };
+    ghost invariant = { λ u. IsUploader (record { host = u.host; uploads = U.listed u.uploads; states = u.states }) };
 }
 
-impl Uploader {
+impl Uploader<Vec<Upload>> {
     /// The uploads of a host, all idle: fewer than 2^32, each of this host and with its position as its number. [`are_own`]
     /// tests that. At `Memory` the uploads are dropped.
     pub fn new(alloc: Global, host: u16, uploads: Vec<Upload>) -> Result<Uploader, Memory>
@@ -42,8 +44,32 @@ impl Uploader {
             u ≡ record { host = host; uploads = uploads.items; states = replicate (vec_len uploads) Idle }) }
         ensures none { IfOk result NoneAcked }
     {
-        uploads_are_full(&uploads);
-        let states = States::new(alloc, uploads.len())?;
+        Uploader::over(alloc, host, uploads)
+    }
+
+    /// The upload of a number, which is below the number of uploads: it is of this host, and has that number.
+    pub fn upload(&self, seq: u32) -> &Upload
+        requires { seq < length self.now.uploads }
+        ensures value { slice_get self.now.uploads seq ≡ Some result.now }
+        ensures own { (result.now.host ≡ self.now.host) × (result.now.seq ≡ seq) }
+    {
+        &self.uploads[seq as usize]
+    }
+}
+
+impl<U: Uploads> Uploader<U> {
+    /// As [`Uploader::new`], of uploads that are kept in some way: fewer than 2^32, each of this host and with its position
+    /// as its number. At `Memory` the uploads are dropped.
+    pub fn over(alloc: Global, host: u16, uploads: U) -> Result<Uploader<U>, Memory>
+        requires { AreOwn host (U.listed uploads) }
+        ensures value { IfOk result (λ u. u ≡ record {
+          host = host;
+          uploads = U.listed uploads;
+          states = replicate (length (U.listed uploads)) Idle;
+        }) }
+        ensures none { IfOk result NoneAcked }
+    {
+        let states = States::new(alloc, uploads.count())?;
         Ok(Uploader {
             host,
             uploads,
@@ -56,7 +82,7 @@ impl Uploader {
         ensures len { result ≡ length self.now.uploads }
         ensures uploader { IsUploader self.now }
     {
-        self.uploads.len() as u32
+        self.uploads.count() as u32
     }
 
     /// The host's name.
@@ -66,13 +92,16 @@ impl Uploader {
         self.host
     }
 
-    /// The upload of a number, which is below the number of uploads: it is of this host, and has that number.
-    pub fn upload(&self, seq: u32) -> &Upload
+    /// The frame of the upload of a number, which is below the number of uploads (docs/FORMATS.md, Frames). The upload is of
+    /// this host, and has that number. `Memory` where there is none for the frame.
+    pub fn frame(&self, alloc: Global, seq: u32) -> Result<Vec<u8>, Memory>
         requires { seq < length self.now.uploads }
-        ensures value { slice_get self.now.uploads seq ≡ Some result.now }
-        ensures own { (result.now.host ≡ self.now.host) × (result.now.seq ≡ seq) }
+        ensures frame { IfOk result (λ bytes.
+            (u : UploadData) → slice_get self.now.uploads seq ≡ Some u → bytes.items ≡ frame_of u) }
+        ensures own { (u : UploadData) → slice_get self.now.uploads seq ≡ Some u →
+            (u.host ≡ self.now.host) × (u.seq ≡ seq) × IsFull u }
     {
-        &self.uploads[seq as usize]
+        self.uploads.frame(alloc, seq as usize)
     }
 
     /// Makes the least idle upload outstanding. Its number. None exactly where 8 are outstanding or none is idle; nothing
@@ -158,13 +187,4 @@ pub fn are_own(host: u16, uploads: &[Upload]) -> bool
         }
     }
     true
-}
-
-// Each upload has numbers and columns that a frame can hold. Nothing is done here; the clause is what counts.
-fn uploads_are_full(uploads: &[Upload])
-    ensures { AllByRecursion IsFull uploads.now }
-{
-    for upload in uploads {
-        upload.columns();
-    }
 }
