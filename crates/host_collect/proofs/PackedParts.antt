@@ -1,16 +1,18 @@
 -- The uploads of packed columns: each is whole, and each is a range of what came.
-use Rattle.std.specs.Prelude.{◌≡◌, ℕ, zero, suc, ◌+◌, ◌-◌, ◌<◌, ◌≤◌, ◌^◌, List, [], ◌∷◌, ◌++◌, length, map, take, drop, slice_index_or, slice_get, Option, Some, None}
+use Rattle.std.specs.Prelude.{◌≡◌, ℕ, zero, suc, ◌+◌, ◌-◌, ◌<◌, ◌≤◌, ◌^◌, List, [], ◌∷◌, ◌++◌, length, map, take, drop, slice_index_or, slice_get, Option, Some, None, All}
 use Rattle.std.specs.List.{AllByRecursion, enumerate_from, flat_map}
 use Rattle.std.proofs.Common.{refl, sym, ap, ◌∙◌, subst, arith, length-append}
-use Rattle.std.proofs.lemmas.List.{take-map, drop-map}
-use Rattle.lg_model.specs.declared.limits.TheConstants.{MOST_UPLOAD_COLUMNS}
+use Rattle.std.proofs.lemmas.List.{take-map, drop-map, take_all, take_more, map-append, get_or-map, length-map}
+use Rattle.std.proofs.lemmas.List.Elements.{All-push}
+use Rattle.lg_model.specs.declared.limits.TheConstants.{MOST_SKETCHLET_BYTES, MOST_UPLOAD_COLUMNS}
 use Rattle.lg_model.specs.Columns.{Column}
 use Rattle.lg_model.specs.Matching.{Matched}
 use Rattle.sketchlet_wire.specs.declared.packed.Packed.{Packed}
 use Rattle.sketchlet_wire.specs.Spelling.{IsColumn}
 use Rattle.sketchlet_wire.specs.Packing.{IsPacked}
 use Rattle.sketchlet_wire.specs.Uploads.{UploadData, IsUpload, IsFull, upload_of}
-use Rattle.upload_frame.specs.Pooled.{item_at, items_at}
+use Rattle.upload_frame.specs.Pooled.{no_item, item_at, items_at}
+use Rattle.lg_model.proofs.Pairing.{matched_push, matched_at}
 use Rattle.host_collect.specs.Cutting.{Piece, cut, numbered}
 use Rattle.host_collect.specs.PackedUploads.{column_in, column_or_none, columns_at, pieces, start_of, AreEnds, PackColumns, uploads_at}
 use Rattle.host_collect.proofs.Cutters.{numbered_len}
@@ -141,3 +143,40 @@ between pool places from count columns =
 
 pub uploads_len : (host : ℕ) (pool : List Packed) (places ends : List ℕ) → length (uploads_at host pool places ends) ≡ length ends
 uploads_len host pool places ends = numbered_len host (pieces 0 ends (columns_at pool places)) ∙ pieces_len 0 ends (columns_at pool places)
+
+-- ---- places that pack columns
+
+pub all_short : (i : ℕ) (pool : List Packed) → length pool ≤ i → All (λ (p : Packed). p.len ≤ MOST_SKETCHLET_BYTES) (take i pool) → All (λ (p : Packed). p.len ≤ MOST_SKETCHLET_BYTES) pool
+all_short i pool all short = subst (All (λ (p : Packed). p.len ≤ MOST_SKETCHLET_BYTES)) (take_all i pool all) short
+
+abbrev pub PackHere : List Packed → ℕ → Type 0
+PackHere pool k = (k < length pool) × IsPacked (item_at pool k) (column_in (item_at pool k))
+
+abbrev pub PackFirst : List Packed → List ℕ → Type 0
+PackFirst pool places = All (λ (k : ℕ). k < length pool) places × Matched IsPacked (items_at pool places) (columns_at pool places)
+
+pub pack_more : (pool : List Packed) (places : List ℕ) (i d : ℕ) → i < length places → PackFirst pool (take i places) → PackHere pool (slice_index_or places i d) → PackFirst pool (take (i + 1) places)
+pack_more pool places i d low first here =
+    let k : ℕ = slice_index_or places i d in
+    let items : items_at pool (take i places ++ k ∷ []) ≡ items_at pool (take i places) ++ item_at pool k ∷ [] = map-append (item_at pool) (take i places) (k ∷ []) in
+    let columns : columns_at pool (take i places ++ k ∷ []) ≡ columns_at pool (take i places) ++ column_in (item_at pool k) ∷ [] =
+    ap (map column_in) items ∙ map-append column_in (items_at pool (take i places)) (item_at pool k ∷ []) in
+    subst (PackFirst pool) (sym (take_more places i d low)) (
+      All-push (λ (n : ℕ). n < length pool) (take i places) k first.0 here.0,
+      subst (λ (ps : List Packed). Matched IsPacked ps (columns_at pool (take i places ++ k ∷ []))) (sym items)
+          (subst (λ (cs : List Column). Matched IsPacked (items_at pool (take i places) ++ item_at pool k ∷ []) cs) (sym columns)
+          (matched_push IsPacked (items_at pool (take i places)) (columns_at pool (take i places)) (item_at pool k) (column_in (item_at pool k)) first.1 here.1)),
+    )
+
+pub packs_there : (pool : List Packed) (places : List ℕ) (i d : ℕ) → i < length places → PackColumns pool places → PackHere pool (slice_index_or places i d)
+packs_there pool places i d low is =
+    let inside : i < length (items_at pool places) = omega (arith, low, length-map places (item_at pool)) in
+    let item : slice_index_or (items_at pool places) i no_item ≡ item_at pool (slice_index_or places i d) = get_or-map (item_at pool) places i d no_item low in
+    let column : slice_index_or (columns_at pool places) i (column_in no_item) ≡ column_in (item_at pool (slice_index_or places i d)) =
+    get_or-map column_in (items_at pool places) i no_item (column_in no_item) inside ∙ ap column_in item in
+    let k : ℕ = slice_index_or places i d in
+    let there = matched_at IsPacked (items_at pool places) (columns_at pool places) i no_item (column_in no_item) is.packed inside in (
+      is.inside i d low,
+      subst (λ (p : Packed). IsPacked p (column_in (item_at pool k))) item
+          (subst (IsPacked (slice_index_or (items_at pool places) i no_item)) column there),
+    )

@@ -4,7 +4,7 @@
 //! |---|---|
 //! | [`Cutter`] | takes sketchlets one by one, and gives each upload when it is finished |
 //! | [`uploads`] | the uploads of a list of sketchlets |
-//! | [`PackedUploads`] | the uploads of what came to a host, kept as places of packed columns in a pool |
+//! | [`PackedUploads`], [`pack_columns`] | the uploads of what came to a host, kept as places of packed columns in a pool |
 //! | [`CollectFault`] | why a sketchlet is not taken |
 //! | [`cuts_are_longest`], [`cutters_cut`] | laws over the cut |
 //!
@@ -21,7 +21,7 @@ pub use collecting::uploads;
 pub use cutter::Cutter;
 pub use fault::CollectFault;
 pub use laws::{cuts_are_longest, cutters_cut};
-pub use packed_uploads::PackedUploads;
+pub use packed_uploads::{PackedUploads, pack_columns};
 
 #[cfg(test)]
 mod tests;

@@ -1,23 +1,23 @@
 //! The uploads of a host, kept as the packed columns that came to it.
-ghost use Rattle.std.specs.Prelude.{◌≡◌, ◌<◌, ◌≤◌, ◌^◌, List, All, Some, length, map, slice_get, slice_index_or, IfOk};
-ghost use Rattle.std.specs.List.{list_any, AllByRecursion};
+ghost use Rattle.std.specs.Prelude.{◌≡◌, ◌↔◌, ◌<◌, ◌≤◌, ◌^◌, List, All, IsTrue, length, map, slice_index_or, IfOk};
+ghost use Rattle.std.specs.List.{list_any};
 ghost use Rattle.lg_model.specs.declared.limits.TheConstants.{MOST_SKETCHLET_BYTES, MOST_UPLOAD_COLUMNS};
 ghost use Rattle.lg_model.specs.Columns.{Column as ColumnOfModel};
 ghost use Rattle.lg_model.specs.Matching.{Matched};
 ghost use Rattle.sketchlet_wire.specs.Packing.{IsPacked};
-ghost use Rattle.sketchlet_wire.specs.Uploads.{UploadData, IsFull, same_column_key};
-ghost use Rattle.upload_frame.specs.Frames.{frame_of};
+ghost use Rattle.sketchlet_wire.specs.Uploads.{same_column_key};
 ghost use Rattle.upload_frame.specs.Pooled.{item_at, items_at};
 ghost use Rattle.host_collect.specs.Cutting.{can_join, cut, numbered};
-ghost use Rattle.host_collect.specs.PackedUploads.{AreEnds, columns_at, pieces, start_of, PackColumns};
+ghost use Rattle.host_collect.specs.PackedUploads.{AreEnds, column_in, columns_at, pieces, start_of, PackColumns};
 
 use lg_base::Memory;
 use lg_model::Key;
-use lg_model::limits::MOST_UPLOAD_COLUMNS;
+use lg_model::limits::{MOST_SKETCHLET_BYTES, MOST_UPLOAD_COLUMNS};
 use sketchlet_wire::{Packed, take_key};
 use std::alloc::Global;
 use std::marker::Model;
 use upload_frame::write_packed;
+use uploader_core::Uploads;
 
 /// The uploads of a host, cut from the packed columns that came to it, of which each distinct one is kept once: 4 bytes for
 /// each that came, and 4 for each upload. Contracts see the list of the uploads.
@@ -119,6 +119,20 @@ fn range_of(ends: &[u32], at: usize) -> (usize, usize)
     (from, ends[at] as usize)
 }
 
+// Whether a column is packed at a place, whatever place it is.
+fn packs_at(pool: &[Packed], place: u32) -> bool
+    requires { All (λ p. p.len ≤ MOST_SKETCHLET_BYTES) pool.now }
+    ensures { IsTrue result ↔ (place < length pool.now) × IsPacked (item_at pool.now place) (column_in (item_at pool.now place)) }
+{
+    let Some(item) = pool.get(place as usize) else {
+        return false;
+    };
+    match item.column() {
+        Ok((_, used)) => used == usize::from(item.len),
+        Err(_) => false,
+    }
+}
+
 impl<'a> PackedUploads<'a> {
     /// The uploads of what came to the host of that name: columns of a pool, by their places in it, in order of arrival,
     /// fewer than 2^32. Each upload is the longest front of the rest that has at most 16 columns and no key twice
@@ -142,21 +156,17 @@ impl<'a> PackedUploads<'a> {
             ends,
         })
     }
+}
 
-    /// How many uploads there are.
-    pub fn len(&self) -> usize
-        ensures count { result ≡ length self.now }
-        ensures full { AllByRecursion IsFull self.now }
-    {
+impl<'a> Uploads for PackedUploads<'a> {
+    ghost listed = { λ u. u };
+
+    fn count(&self) -> usize {
         self.ends.len()
     }
 
-    /// The frame of the upload at a position (docs/FORMATS.md, Frames), written from the packed columns as they are.
-    /// `Memory` where there is none for it.
-    pub fn frame(&self, alloc: Global, at: usize) -> Result<Vec<u8>, Memory>
-        requires { at < length self.now }
-        ensures { IfOk result (λ bytes. (u : UploadData) → slice_get self.now at ≡ Some u → bytes.items ≡ frame_of u) }
-    {
+    // Written from the packed columns as they are.
+    fn frame(&self, alloc: Global, at: usize) -> Result<Vec<u8>, Memory> {
         let (from, to) = range_of(&self.ends, at);
         write_packed(
             alloc,
@@ -166,4 +176,22 @@ impl<'a> PackedUploads<'a> {
             &self.places[from..to],
         )
     }
+}
+
+/// Whether all items of a pool are of at most 62 bytes, and these are places of packed columns in it, as
+/// [`PackedUploads::new`] needs them. Takes no memory.
+pub fn pack_columns(pool: &[Packed], places: &[u32]) -> bool
+    ensures { IsTrue result ↔ PackColumns pool.now places.now }
+{
+    for item in pool {
+        if item.len as usize > MOST_SKETCHLET_BYTES {
+            return false;
+        }
+    }
+    for place in places {
+        if !packs_at(pool, *place) {
+            return false;
+        }
+    }
+    true
 }

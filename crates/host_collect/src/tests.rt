@@ -1,10 +1,14 @@
 //! Lists of sketchlets with known cuts.
 
-use crate::{CollectFault, Cutter, cuts_are_longest, cutters_cut, uploads};
+use crate::{
+    CollectFault, Cutter, PackedUploads, cuts_are_longest, cutters_cut, pack_columns, uploads,
+};
 use lg_model::{Bucket, Dims, Key};
 use sketchlet_wire::{Column, Packed, Upload, WireFault};
 use std::alloc::Global;
 use std::test::Fail;
+use upload_frame::write_upload;
+use uploader_core::Uploads;
 
 // The sketchlet of an index of switch 1, of two rows and width 32.
 fn packed(index: u16) -> Option<Packed> {
@@ -135,5 +139,50 @@ fn goes_on_after_a_fault(rt: HostRuntime) -> Result<(), Fail> {
         Some(upload) => assert!(rt; is_upload(&upload, 1, &[0])),
         None => return Err("no upload".into()),
     }
+    Ok(())
+}
+
+// Whether what came, kept by places of a pool of the sketchlets of these indexes, has the frames of the uploads of the
+// sketchlets at these places.
+fn frames_are_same(alloc: Global, indexes: &[u16], places: &[u32]) -> Result<bool, Fail> {
+    let pool = items(alloc, indexes)?;
+    let mut came = Vec::new(alloc);
+    for place in places {
+        came.push(*pool.get(*place as usize).ok_or("no such place")?)?;
+    }
+    if !pack_columns(&pool, places)
+        || !came.iter().all(|item| item.len <= 62)
+        || came.len() >= 4_294_967_296
+        || places.len() >= 4_294_967_296
+    {
+        return Ok(false);
+    }
+    let plain = uploads(alloc, 7, &came).map_err(|_| "refused")?;
+    let kept = PackedUploads::new(alloc, 7, &pool, places)?;
+    let mut same = kept.count() == plain.len();
+    for (at, upload) in plain.iter().enumerate() {
+        if at < kept.count() {
+            let frame = write_upload(alloc, upload)?;
+            same = same && kept.frame(alloc, at)? == frame;
+        }
+    }
+    Ok(same)
+}
+
+#[test]
+fn packed_uploads_have_the_frames_of_uploads(rt: HostRuntime) -> Result<(), Fail> {
+    let alloc = rt.alloc();
+    let indexes: [u16; 20] = [
+        9, 1, 2, 3, 4, 5, 6, 7, 8, 0, 10, 11, 12, 13, 14, 15, 16, 17, 18, 19,
+    ];
+    let all: [u32; 20] = [
+        0, 1, 2, 3, 4, 5, 6, 7, 8, 9, 10, 11, 12, 13, 14, 15, 16, 17, 18, 19,
+    ];
+    assert!(rt; frames_are_same(alloc, &indexes, &all)?);
+    assert!(rt; frames_are_same(alloc, &indexes, &[3, 3, 4, 5, 3, 4, 4])?);
+    assert!(rt; frames_are_same(alloc, &indexes, &[])?);
+    // Two places of one key.
+    assert!(rt; frames_are_same(alloc, &[5, 5], &[0, 1, 0])?);
+    assert!(rt; !pack_columns(&items(alloc, &indexes)?, &[20]));
     Ok(())
 }

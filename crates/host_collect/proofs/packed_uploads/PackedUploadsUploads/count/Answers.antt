@@ -2,7 +2,7 @@ use Rattle.std.proofs.Common.{◌≡◌, ◌∙◌, List, length, sym, ap, rules
 use Rattle.std.specs.List.{AllByRecursion}
 use Rattle.sketchlet_wire.specs.Uploads.{UploadData}
 use Rattle.host_collect.proofs.PackedParts.{uploads_len}
-use Rattle.host_collect.proofs.packed_uploads.PackedUploads.len.Goals as goal
+use Rattle.host_collect.proofs.packed_uploads.PackedUploadsUploads.count.Goals as goal
 
 pub returns-clause-count : goal.returns-clause-count
 returns-clause-count c =

@@ -9,7 +9,7 @@ use Rattle.host_collect.specs.declared.packed_uploads.PackedUploads.TheInside.{I
 use Rattle.host_collect.specs.PackedUploads.{columns_at, pieces, start_of, uploads_at, KeepUploads}
 use Rattle.host_collect.proofs.PackedCuts.{pieces_len}
 use Rattle.host_collect.proofs.PackedParts.{uploads_len, range_at, upload_is, small, between}
-use Rattle.host_collect.proofs.packed_uploads.PackedUploads.frame.Goals as goal
+use Rattle.host_collect.proofs.packed_uploads.PackedUploadsUploads.frame.Goals as goal
 
 -- The upload at a position begins and ends there.
 record IsRange (u : Inside) (at from to : ℕ) : Type 0 where
