@@ -1,5 +1,5 @@
 -- One send of a round.
-use Rattle.std.proofs.Common.{◌≡◌, ◌⊎◌, inl, inr, ℕ, zero, suc, ◌<◌, ◌≤◌, Bool, true, false, cond, Some, None, slice_get, arith, ltb, ltb-true, ltb-false, List, [], ◌∷◌, length, length-set, set, refl, sym, ap, subst, Result, Ok, Err, ◌∙◌, ◌++◌}
+use Rattle.std.proofs.Common.{◌≡◌, ◌⊎◌, inl, inr, ℕ, ◌<◌, ◌≤◌, Bool, true, false, cond, Some, None, arith, ltb, ltb-true, ltb-false, List, ◌∷◌, length, length-set, set, refl, sym, ap, subst, Result, Ok, Err, ◌∙◌, ◌++◌}
 use Rattle.std.specs.Prelude.{All, IsErrAnd, nat_lt, position}
 use Rattle.std.specs.List.{position_or_len}
 use Rattle.std.proofs.lemmas.List.Sums.{fails_before_first}
@@ -18,7 +18,6 @@ use Rattle.link_deliveries.proofs.Room.{sent_acks, sent_refused}
 use Rattle.lg_base.specs.declared.faults.Memory.{Memory as Starved}
 use Rattle.upload_world.specs.declared.deliver.Sent.{Sent}
 use Rattle.upload_world.specs.declared.deliver.Due.{Due}
-use Rattle.upload_world.specs.Pumps.{upload_at}
 use Rattle.upload_world.specs.Pumping.{acks, IsSteady, IsSent, IsDue, MakesDue, dues, seqs, still_held, held_with, SentNext, SentNone, SendsNext}
 use Rattle.upload_world.proofs.Chained.{held_sent}
 use Rattle.upload_world.proofs.Dues.{seqs_held}
@@ -64,12 +63,6 @@ steady_sent u w q next is s =
       each = ap length same ∙ length-set u.states q states.Outstanding ∙ s.each ∙ ap (λ (x : UploaderState). length x.uploads) (sym is);
       none = ap refusals same ∙ sent_refused u.states q next ∙ s.none;
     }
-
--- the upload of a number
-pub upload_is : (ups : List UploadData) (q : ℕ) (u : UploadData) → slice_get ups q ≡ Some u → u ≡ upload_at ups q
-upload_is [] q u is = absurd (cc is)
-upload_is (x ∷ ups) zero u is = let e : x ≡ u = cc is in sym e
-upload_is (x ∷ ups) (suc q) u is = upload_is ups q u is
 
 module _ (host : ℕ) (ups : List UploadData) (letter : Letter) (ss : List SeqState) (held kept : List Sent) (old new : Due) (q : ℕ) (next : IsNext ss q) where
   -- want of memory for what was sent

@@ -15,8 +15,7 @@ use lg_model::Letter;
 use shared_book::{Pass, SharedBook};
 use std::alloc::Global;
 use std::sync::Wait;
-use upload_frame::write_upload;
-use uploader_core::Uploader;
+use uploader_core::{Uploader, Uploads};
 
 // The letter at a place. Past the last one each upload is delivered.
 fn letter_at(letters: &[Letter], at: usize) -> Letter
@@ -36,19 +35,24 @@ fn place_after(letters: &[Letter], at: usize) -> usize
 }
 
 // The frame of an upload, which the gate was handed.
-fn hand<G: Gate>(alloc: Global, uploader: &Uploader, seq: u32, gate: &G) -> Result<Sent, Memory>
+fn hand<U: Uploads, G: Gate>(
+    alloc: Global,
+    uploader: &Uploader<U>,
+    seq: u32,
+    gate: &G,
+) -> Result<Sent, Memory>
     requires { seq < length uploader.now.uploads }
     ensures { IfOk result (λ s. (s.seq ≡ seq) × IsSent uploader.now.host uploader.now.uploads s) }
 {
-    let frame = write_upload(alloc, uploader.upload(seq))?;
+    let frame = uploader.frame(alloc, seq)?;
     gate.pass(uploader.host(), seq, frame.as_slice());
     Ok(Sent { seq, frame })
 }
 
 // Sends the next upload, with this letter: what it brings is due. False where none is to be sent.
-fn send_next<G: Gate>(
+fn send_next<U: Uploads, G: Gate>(
     alloc: Global,
-    uploader: &mut Uploader,
+    uploader: &mut Uploader<U>,
     due: &mut Due,
     held: &mut Vec<Sent>,
     letter: Letter,
@@ -72,12 +76,12 @@ fn send_next<G: Gate>(
 
 /// One round, from the letter at that place. What a window brings is applied in one turn, once no more may be sent before
 /// it; what is held comes last. It answers the place of the letter that is next.
-pub(crate) fn round<D: Disk, G: Gate, R: Wait>(
+pub(crate) fn round<D: Disk, U: Uploads, G: Gate, R: Wait>(
     alloc: Global,
     rt: &R,
     book: &SharedBook<D>,
     pass: &mut Pass,
-    uploader: &mut Uploader,
+    uploader: &mut Uploader<U>,
     letters: &[Letter],
     from: usize,
     gate: &G,

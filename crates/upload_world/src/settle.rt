@@ -12,11 +12,11 @@ use shared_book::{Pass, SharedBook, reply_of};
 use sketchlet_wire::Upload;
 use std::alloc::Global;
 use std::sync::Wait;
-use uploader_core::Uploader;
+use uploader_core::{Uploader, Uploads};
 
 // Hands the reply to an application on, where there is one and it is heard.
-fn hand_on(
-    uploader: &mut Uploader,
+fn hand_on<U: Uploads>(
+    uploader: &mut Uploader<U>,
     upload: &Upload,
     answer: &Result<Applied, ApplyFault>,
     heard: bool,
@@ -43,12 +43,12 @@ fn outcome(seq: u32, answer: Result<Applied, ApplyFault>) -> Result<(), WorkFaul
 
 /// Applies what is due in one turn, in order, until the book refuses an upload, and hands the replies on, where they are
 /// heard. Nothing is due then. Where nothing is, no turn is taken.
-pub(crate) fn settle<D: Disk, R: Wait>(
+pub(crate) fn settle<D: Disk, U: Uploads, R: Wait>(
     alloc: Global,
     rt: &R,
     book: &SharedBook<D>,
     pass: &mut Pass,
-    uploader: &mut Uploader,
+    uploader: &mut Uploader<U>,
     due: &mut Due,
 ) -> Result<(), WorkFault>
     requires book { pass.old.book ≡ book.now.id }

@@ -12,6 +12,7 @@ use std::test::Fail;
 use upload_frame::Reply;
 use uploader_core::are_own;
 
+mod keeping;
 mod pumping;
 mod workers;
 

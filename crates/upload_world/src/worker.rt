@@ -14,15 +14,15 @@ use lg_model::Letter;
 use shared_book::{Pass, SharedBook};
 use std::alloc::Global;
 use std::sync::Wait;
-use uploader_core::Uploader;
+use uploader_core::{Uploader, Uploads};
 
 // Rounds until all uploads are acknowledged.
-fn all_rounds<D: Disk, G: Gate, R: Wait>(
+fn all_rounds<D: Disk, U: Uploads, G: Gate, R: Wait>(
     alloc: Global,
     rt: &R,
     book: &SharedBook<D>,
     pass: &mut Pass,
-    uploader: &mut Uploader,
+    uploader: &mut Uploader<U>,
     letters: &[Letter],
     gate: &G,
 ) -> Result<(), WorkFault>
@@ -48,21 +48,21 @@ fn all_rounds<D: Disk, G: Gate, R: Wait>(
 /// pass, in rounds, until all are acknowledged (docs/DEFINITIONS.md, Deliveries; docs/FORMATS.md, Letters of a link). The
 /// deliveries are those of [`link_deliveries`], in that order, one call each.
 ///
-/// Each send writes its upload's frame and hands the bytes to the gate once, before anything comes of it; each delivery
-/// reads the upload back from these bytes, and then waits for the turn. What a window brings is applied in one turn, once
-/// no more may be sent before it. The calls that are left have to be at least twice the number of uploads and letters, and
-/// no upload may be refused.
+/// Each send takes its upload's frame from the uploads, however they are kept, and hands the bytes to the gate once, before
+/// anything comes of it; each delivery reads the upload back from these bytes, and then waits for the turn. What a window
+/// brings is applied in one turn, once no more may be sent before it. The calls that are left have to be at least twice the
+/// number of uploads and letters, and no upload may be refused.
 ///
 /// `Refused` comes exactly at the first delivery that the book refuses for another cause than memory: the earlier ones
 /// stand in the list that the pass has seen, and no more is sent. `Memory` comes where there was none for a frame, an
 /// upload, a turn's answers or the book; the deliveries that were applied before that stand. At every end an acknowledged
 /// upload has all its columns in that list. It may wait forever where the call of another pass does not return.
-pub fn pump<D: Disk + Send, G: Gate, R: Wait>(
+pub fn pump<D: Disk + Send, U: Uploads, G: Gate, R: Wait>(
     alloc: Global,
     rt: &R,
     book: &SharedBook<D>,
     pass: &mut Pass,
-    uploader: &mut Uploader,
+    uploader: &mut Uploader<U>,
     letters: &[Letter],
     gate: &G,
 ) -> Result<(), WorkFault>

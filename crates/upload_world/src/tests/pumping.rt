@@ -3,7 +3,7 @@ ghost use Rattle.std.specs.Prelude.{◌≡◌, None, IfOk};
 ghost use Rattle.link_deliveries.specs.Waiting.{refusals};
 
 use super::column;
-use crate::{Book, Uploader, WorkFault, pump};
+use crate::{Book, Uploader, Uploads, WorkFault, pump};
 use book_journal::{ApplyFault, Journal};
 use column_book::ROOM;
 use lg_base::{Gate, OpenGate};
@@ -44,7 +44,7 @@ pub(super) fn uploader(alloc: Global, host: u16, uploads: Vec<Upload>) -> Result
 }
 
 // What came of a pump: its answer, how many calls it took, and the book.
-type Told = (Result<(), WorkFault>, u32, Book);
+pub(super) type Told = (Result<(), WorkFault>, u32, Book);
 
 pub(super) fn journal(alloc: Global, stop: Option<u32>) -> Result<Journal<MemoryDisk>, Fail>
     ensures { IfOk result (λ j. j.fault ≡ None) }
@@ -61,10 +61,10 @@ pub(super) fn journal(alloc: Global, stop: Option<u32>) -> Result<Journal<Memory
 }
 
 // Pumps an uploader's uploads into an empty book.
-fn run<G: Gate, R: Wait>(
+pub(super) fn run<U: Uploads, G: Gate, R: Wait>(
     rt: &R,
     alloc: Global,
-    uploader: &mut Uploader,
+    uploader: &mut Uploader<U>,
     letters: &[Letter],
     gate: &G,
 ) -> Result<Told, Fail>
@@ -101,7 +101,7 @@ pub(super) fn after(number: u64, seq: u32) -> u64 {
 }
 
 // The uploads of the entries, in order.
-fn stored(book: &Book) -> u64 {
+pub(super) fn stored(book: &Book) -> u64 {
     let mut number = 0;
     for at in 0..book.records() {
         number = after(number, book.head(at).seq);
@@ -129,10 +129,10 @@ fn letters(alloc: Global, names: &str) -> Result<Vec<Letter>, Fail> {
 
 // A gate that compares each frame with that of its upload, of host 1, and keeps the numbers of the uploads in order.
 #[derive(Drop)]
-struct Watch {
+pub(super) struct Watch {
     frames: Vec<Vec<u8>>,
-    sends: AtomicU64,
-    others: AtomicU64,
+    pub(super) sends: AtomicU64,
+    pub(super) others: AtomicU64,
 }
 
 impl Gate for Watch {
@@ -149,7 +149,7 @@ impl Gate for Watch {
     }
 }
 
-fn watching(alloc: Global, uploads: &[Upload]) -> Result<Watch, Fail> {
+pub(super) fn watching(alloc: Global, uploads: &[Upload]) -> Result<Watch, Fail> {
     let mut frames = Vec::new(alloc);
     for upload in uploads {
         frames.push(write_upload(alloc, upload)?)?;
@@ -163,7 +163,7 @@ fn watching(alloc: Global, uploads: &[Upload]) -> Result<Watch, Fail> {
 
 const EQUAL: [(u16, u32); 4] = [(0, 5), (0, 5), (0, 5), (0, 5)];
 
-const OTHERS: [(u16, u32); 4] = [(0, 5), (1, 5), (2, 5), (3, 5)];
+pub(super) const OTHERS: [(u16, u32); 4] = [(0, 5), (1, 5), (2, 5), (3, 5)];
 
 // How many calls a pump takes, the uploads of the entries, and the uploads that were sent, whose frames the gate saw.
 fn follow<R: Wait>(
