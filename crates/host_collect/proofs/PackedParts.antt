@@ -11,6 +11,7 @@ use Rattle.sketchlet_wire.specs.declared.packed.Packed.{Packed}
 use Rattle.sketchlet_wire.specs.Spelling.{IsColumn}
 use Rattle.sketchlet_wire.specs.Packing.{IsPacked}
 use Rattle.sketchlet_wire.specs.Uploads.{UploadData, IsUpload, IsFull, upload_of}
+use Rattle.uploader_core.specs.Uploader.{AreOwn}
 use Rattle.upload_frame.specs.Pooled.{no_item, item_at, items_at}
 use Rattle.lg_model.proofs.Pairing.{matched_push, matched_at}
 use Rattle.host_collect.specs.Cutting.{Piece, cut, numbered}
@@ -114,6 +115,20 @@ small_from : (host a : ℕ) (ps : List Piece) (k : ℕ) → AllByRecursion IsFul
 small_from host a [] k all low = absurd (omega (arith, low))
 small_from host a (p ∷ ps) zero all low = omega (arith, all.0.seq)
 small_from host a (p ∷ ps) (suc k) all low = omega (arith, small_from host (a + 1) ps k all.1 (omega (arith, low)))
+
+-- The uploads of a host have their positions as their numbers, and there are at most as many as columns.
+pub own : (host : ℕ) (cs : List Column) → length cs < 2 ^ 32 → AreOwn host (numbered host (cut cs)) × (length (numbered host (cut cs)) ≤ length cs)
+own host cs few =
+    let is = cut_law cs in
+    let count : length (numbered host (cut cs)) ≤ length cs = omega (arith, few_pieces (cut cs) is.uploads, ap length is.whole, numbered_len host (cut cs)) in (
+      record {
+        few = omega (arith, count, few);
+        each = λ q u here.
+            let same = upload_from host 0 (cut cs) q u here in
+            (ap (λ (x : UploadData). x.host) same, ap (λ (x : UploadData). x.seq) same ∙ (let e : 0 + q ≡ q = omega arith in e));
+      },
+      count,
+    )
 
 pub small : (host : ℕ) (ps : List Piece) (k : ℕ) → AllByRecursion IsFull (numbered host ps) → k < length ps → k < 2 ^ 32
 small host ps k all low = omega (arith, small_from host 0 ps k all low)

@@ -6,6 +6,7 @@ ghost use Rattle.lg_model.specs.Columns.{Column as ColumnOfModel};
 ghost use Rattle.lg_model.specs.Matching.{Matched};
 ghost use Rattle.sketchlet_wire.specs.Packing.{IsPacked};
 ghost use Rattle.sketchlet_wire.specs.Uploads.{same_column_key};
+ghost use Rattle.uploader_core.specs.Uploader.{AreOwn};
 ghost use Rattle.upload_frame.specs.Pooled.{item_at, items_at};
 ghost use Rattle.host_collect.specs.Cutting.{can_join, cut, numbered};
 ghost use Rattle.host_collect.specs.PackedUploads.{AreEnds, column_in, columns_at, pieces, start_of, PackColumns};
@@ -145,8 +146,10 @@ impl<'a> PackedUploads<'a> {
     ) -> Result<PackedUploads<'a>, Memory>
         requires columns { PackColumns pool.now places.now }
         requires count { length places.now < 2 ^ 32 }
-        ensures { IfOk result (λ us. (cs : List ColumnOfModel) → Matched IsPacked (items_at pool.now places.now) cs
+        ensures value { IfOk result (λ us. (cs : List ColumnOfModel) → Matched IsPacked (items_at pool.now places.now) cs
             → us ≡ numbered host (cut cs)) }
+        ensures own { IfOk result (AreOwn host) }
+        ensures few { IfOk result (λ us. length us ≤ length places.now) }
     {
         let ends = ends_of(alloc, pool, places)?;
         Ok(PackedUploads {

@@ -1,5 +1,6 @@
 //! What a host sends, and the work of its worker.
 
+use host_collect::PackedUploads;
 use lg_model::Letter;
 use shared_book::Pass;
 use upload_world::{Uploader, WorkFault};
@@ -7,8 +8,8 @@ use upload_world::{Uploader, WorkFault};
 /// What a host sends: its uploads, the letters of its link, and how the work on them ended, `Ok` before it began.
 #[derive(Drop)]
 pub struct Sender<'a> {
-    /// The uploads, and how far each is.
-    pub uploader: Uploader,
+    /// The uploads, kept packed, and how far each is.
+    pub uploader: Uploader<PackedUploads<'a>>,
     /// What the link does to them, one letter after the other.
     pub letters: &'a [Letter],
     /// How the work ended.

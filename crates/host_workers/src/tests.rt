@@ -5,50 +5,53 @@ ghost use Rattle.host_workers.specs.Working.{HasCallsFor};
 use crate::{Sender, room_for, run_workers};
 use book_journal::Journal;
 use column_book::ROOM;
+use host_collect::{PackedUploads, pack_columns};
 use lg_base::OpenGate;
 use lg_disk::MemoryDisk;
 use lg_model::{Bucket, Dims, Hash, Key, Letter, Shape};
 use shared_book::share;
-use sketchlet_wire::{Column, Upload};
+use sketchlet_wire::{Column, Packed};
 use std::alloc::Global;
 use std::sync::Wait;
 use std::test::Fail;
 use std::thread::Threads;
 use upload_world::Uploader;
-use uploader_core::are_own;
 
-// The upload of this number of a host: one column of its own.
-fn upload(alloc: Global, host: u16, seq: u32) -> Result<Upload, Fail> {
-    let key = Key {
-        switch: host,
-        epoch: seq,
-        index: 0,
-    };
-    let bucket = Bucket {
-        bytes: 1500,
-        delay: 20,
-    };
-    let column = Column::new(key, Dims { rows: 2, width: 1 }, [bucket; 8]).ok_or("no column")?;
-    Ok(
-        Upload::new(host, seq, [column].to_vec(alloc)?)
-            .ok()
-            .ok_or("no upload")?,
-    )
+// Three columns of a host, each of an epoch of its own, packed.
+fn pool(alloc: Global, host: u16) -> Result<Vec<Packed>, Fail> {
+    let mut pool = Vec::new(alloc);
+    for epoch in 0..3u32 {
+        let key = Key {
+            switch: host,
+            epoch,
+            index: 0,
+        };
+        let bucket = Bucket {
+            bytes: 1500,
+            delay: 20,
+        };
+        let column = Column::new(key, Dims { rows: 2, width: 1 }, [bucket; 8]).ok_or("no column")?;
+        pool.push(Packed::of(&column))?;
+    }
+    Ok(pool)
 }
 
-// What a host sends: three uploads, over a link with these letters.
-fn sender<'a>(alloc: Global, host: u16, letters: &'a [Letter]) -> Result<Sender<'a>, Fail>
+// What a host sends: what came to it, at these places of a pool, over a link with these letters.
+fn sender<'a>(
+    alloc: Global,
+    host: u16,
+    pool: &'a [Packed],
+    places: &'a [u32],
+    letters: &'a [Letter],
+) -> Result<Sender<'a>, Fail>
     requires few { length letters.now ≤ 8 }
     ensures { IfOk result HasCallsFor }
 {
-    let mut uploads = Vec::new(alloc);
-    for seq in 0..3u32 {
-        uploads.push(upload(alloc, host, seq)?)?;
+    if places.len() > 48 || !pack_columns(pool, places) {
+        return Err("no packed columns".into());
     }
-    if uploads.len() > 3 || !are_own(host, &uploads) {
-        return Err("no uploads of that host".into());
-    }
-    let uploader = Uploader::new(alloc, host, uploads)?;
+    let uploads = PackedUploads::new(alloc, host, pool, places)?;
+    let uploader = Uploader::over(alloc, host, uploads)?;
     Ok(Sender {
         uploader,
         letters,
@@ -60,6 +63,8 @@ fn add<'a>(
     alloc: Global,
     senders: &mut Vec<Sender<'a>>,
     host: u16,
+    pool: &'a [Packed],
+    places: &'a [u32],
     letters: &'a [Letter],
 ) -> Result<(), Fail>
     requires few { length letters.now ≤ 8 }
@@ -67,7 +72,7 @@ fn add<'a>(
     ensures calls { All HasCallsFor senders.new.items }
     ensures many { length senders.new.items ≤ length senders.old.items + 1 }
 {
-    let sender = sender(alloc, host, letters)?;
+    let sender = sender(alloc, host, pool, places, letters)?;
     senders.push(sender)?;
     Ok(())
 }
@@ -105,10 +110,14 @@ fn run<R: Threads + Wait + Sync>(
 fn workers_bring_all_uploads(rt: HostRuntime) -> Result<(), Fail> {
     let alloc = rt.alloc();
     let letters = [Letter::Lose, Letter::LoseReply, Letter::Twice, Letter::Hold];
+    // Each column comes twice, so that a host has three uploads.
+    let places = [0, 0, 1, 1, 2];
+    let first = pool(alloc, 1)?;
+    let second = pool(alloc, 2)?;
     let mut senders = Vec::new(alloc);
-    add(alloc, &mut senders, 1, &letters)?;
-    add(alloc, &mut senders, 2, &letters)?;
-    assert_eq!(rt; run(&rt, alloc, senders)?, (6, 2));
+    add(alloc, &mut senders, 1, &first, &places, &letters)?;
+    add(alloc, &mut senders, 2, &second, &places, &letters)?;
+    assert_eq!(rt; run(&rt, alloc, senders)?, (4, 2));
     assert_eq!(rt; run(&rt, alloc, Vec::new(alloc))?, (0, 0));
     Ok(())
 }
