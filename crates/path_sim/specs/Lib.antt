@@ -1,7 +1,6 @@
 pub mod Parts
+pub mod Taking
 pub mod Holding
 pub mod Sending
-pub mod Moving
-pub mod Outcome
+pub mod Running
 pub mod Arrived
-pub mod Own

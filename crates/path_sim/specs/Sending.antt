@@ -1,18 +1,21 @@
 -- The packets of a step.
-use Rattle.std.specs.Prelude.{◌≡◌, ℕ, ◌<◌, ◌≤◌, length, All}
-use Rattle.lg_model.specs.declared.limits.TheConstants.{MOST_HOPS}
-use Rattle.lg_model.specs.Scenario.{reached}
-use Rattle.lg_model.specs.Trace.{Packet}
-use Rattle.path_sim.specs.declared.sending.Sent.{Sent}
+use Rattle.std.specs.Prelude.{◌≡◌, ℕ, ◌<◌, ◌≤◌, ◌-◌, ◌++◌, ◌∷◌, [], length, slice_index, All}
+use Rattle.lg_model.specs.declared.limits.TheConstants.{MOST_HOPS, MOST_PACKETS}
+use Rattle.lg_model.specs.Placing.{places_of}
+use Rattle.lg_model.specs.Scenario.{Scenario}
+use Rattle.lg_model.specs.Trace.{packets_until}
+use Rattle.path_sim.specs.declared.meeting.Visit.{Visit}
+use Rattle.path_sim.specs.Parts.{meeting_is, meetings_to}
 
--- Each of them is this packet.
-abbrev pub packet_is : Sent → Packet
-packet_is s = record { step_at = s.step_at; flow = s.flow.now; size = s.size; delays = s.delays.now; fate = s.fate }
-
--- They can go their way: its switches are there, they are 16 at most, and there is a delay for each.
-pub record IsFit (switches : ℕ) (s : Sent) : Type 0 where
-  pub path : All (λ a. a < switches) s.flow.now.path
-  pub few_hops : length s.flow.now.path ≤ MOST_HOPS
-  pub delays : length s.delays.now ≡ length s.flow.now.path
-  pub reached_is : s.reached ≡ reached s.fate (length s.flow.now.path)
-  pub reach : s.reached ≤ length s.flow.now.path
+-- It is a meeting of the scenario, of a packet of its step, at a hop of its path, and it is told as it is.
+pub record IsVisit (w : Scenario) (m : Visit) : Type 0 where
+  pub inside : m.step_at ≤ length w.steps
+  pub first : length (packets_until w m.step_at) ≤ m.number
+  pub few : m.number < MOST_PACKETS
+  pub first_hop : 1 ≤ m.hop
+  pub last_hop : m.hop ≤ m.hops
+  pub few_hops : m.hops ≤ MOST_HOPS
+  pub switch : m.switch_at < length w.switches
+  pub name : m.switch ≡ slice_index w.switches m.switch_at
+  pub places : m.places.now ≡ places_of w.shape m.key
+  pub next : meetings_to w m.number m.hop ≡ meetings_to w m.number (m.hop - 1) ++ meeting_is m ∷ []

@@ -1,0 +1,60 @@
+-- What a run of the network has come to.
+use Rattle.std.specs.Prelude.{◌≡◌, ℕ, ◌+◌, ◌≤◌, List, [], length, All, Option, None}
+use Rattle.lg_model.specs.Scenario.{Scenario}
+use Rattle.lg_model.specs.Trace.{Meeting, meetings, meetings_in}
+use Rattle.lg_model.specs.Matching.{MatchedOption}
+use Rattle.lg_model.specs.Carrying as model
+use Rattle.lg_model.specs.Carrying.{IsAllowed}
+use Rattle.lg_model.specs.Offering.{Picks, Offering, IsPick, offering, HaveChosen}
+use Rattle.lg_model.specs.Runs.{Runs}
+use Rattle.lg_model.specs.TwinsState.{TwinsState, AreTwins}
+use Rattle.lg_model.specs.Arriving.{cargo, deliveries}
+use Rattle.lg_model.specs.Midway.{packets_to, arrived_to, held_to, AreDelivered}
+use Rattle.sketchlet_wire.specs.Packing.{IsPacked}
+use Rattle.path_sim.specs.declared.inbox.Held.{Held}
+use Rattle.path_sim.specs.declared.post.Post.{Ghosts}
+use Rattle.path_sim.specs.declared.traffic.Traffic.{Traffic}
+use Rattle.path_sim.specs.Parts.{IsBefore, meetings_to, some_count}
+use Rattle.path_sim.specs.Holding.{AreHeld, IsInside}
+use Rattle.path_sim.specs.Arrived.{HaveArrived}
+
+-- How far a run is: the step, the number of the packet that is under way or next, the meetings that were counted, and
+-- those whose offers were made.
+pub record Progress : Type 0 where
+  pub step : ℕ
+  pub number : ℕ
+  pub counted : List Meeting
+  pub offered : List Meeting
+
+-- Before the packet of number k within the step at n.
+abbrev pub before_packet : Scenario → (n k : ℕ) → Progress
+before_packet w n k = record { step = n; number = k; counted = meetings_in (packets_to w k); offered = meetings_in (packets_to w k) }
+
+-- The packet of number k within the step at n was counted at that many hops, and offered at that many.
+abbrev pub at_hops : Scenario → (n k counted offered : ℕ) → Progress
+at_hops w n k counted offered = record { step = n; number = k; counted = meetings_to w k counted; offered = meetings_to w k offered }
+
+-- For that carry list what came to the hosts and what is held is what the packets before number k within the step at n
+-- brought.
+pub record IsMail {O C : Type 0} (post : Ghosts O C) (w : Scenario) (n k : ℕ) (cs : List model.Carry) (o : O) (hs : List (Held C)) : Type 0 where
+  pub noted : post.notes o w cs
+  pub hosts : length (post.inboxes o) ≡ length w.hosts
+  pub arrived : AreDelivered IsPacked (deliveries w cs (arrived_to w n k)) (post.inboxes o)
+  pub held : AreHeld (post.stands o) (deliveries w cs (held_to w n k)) hs
+  pub held_inside : All (IsInside (length w.hosts)) hs
+
+-- A run that began with these pickers is that far: there is a carry list that the answers of the pickers give, by these
+-- packets and at most one a packet, the twins and the mail are those of this list, and the cargo is what the packet
+-- that is under way carries.
+pub record IsRun {S O C : Type 0} (picks : Picks S) (post : Ghosts O C) (w : Scenario) (at : Progress) (start : Offering S) (ps : List S) (t : Traffic O C) (in_hand : Option C) : Type 0 where
+  pub carried : List model.Carry
+  pub chosen : Runs (IsPick picks w) at.offered start (offering ps carried)
+  pub before : All (IsBefore (at.number + some_count in_hand)) carried
+  pub few : length carried ≤ at.number + some_count in_hand
+  pub twins : AreTwins w at.step at.counted carried t.twins.items
+  pub cargo_is : MatchedOption (post.stands t.post) in_hand (cargo w carried at.number)
+  pub mail : IsMail post w at.step at.number carried t.post t.held.items
+
+-- No packet is under way.
+abbrev pub IsRunTo : {S O C : Type 0} → Picks S → Ghosts O C → Scenario → (n k : ℕ) → Offering S → List S → Traffic O C → Type 0
+IsRunTo picks post w n k start ps t = IsRun picks post w (before_packet w n k) start ps t None
