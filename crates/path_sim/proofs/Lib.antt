@@ -1,3 +1,5 @@
 pub mod Offers
 pub mod Mailing
+pub mod Settling
 pub mod Visiting
+pub mod Walking

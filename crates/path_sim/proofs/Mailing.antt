@@ -14,6 +14,7 @@ use Rattle.sketchlet_wire.specs.declared.packed.Packed.{Packed}
 use Rattle.sketchlet_wire.specs.Packing.{IsPacked}
 use Rattle.path_sim.specs.declared.inbox.Held.{Held}
 use Rattle.path_sim.specs.declared.post.Post.{Ghosts}
+use Rattle.path_sim.specs.declared.traffic.Traffic.{Traffic}
 use Rattle.path_sim.specs.Holding.{AreHeld}
 use Rattle.path_sim.specs.Running.{IsMail}
 
@@ -26,9 +27,10 @@ held_still stands stands' (x ∷ hs) [] stays h = absurd h
 held_still stands stands' (x ∷ hs) (d ∷ ds) stays h = ((h.0.0, stays x.cargo d.1 h.0.1), held_still stands stands' hs ds stays h.1)
 
 -- later entries of the carry list change nothing of it
-pub mail_stays : {O C : Type 0} (post : Ghosts O C) (w : Scenario) (n k : ℕ) (cs cs' : List model.Carry) (o o' : O) (hs : List (Held C)) → n ≤ length w.steps → length (packets_until w n) ≤ k → Adds k cs cs' →
-    post.notes o' w cs' → post.inboxes o' ≡ post.inboxes o → ((c : C) (column : Column) → post.stands o c column → post.stands o' c column) → IsMail post w n k cs o hs → IsMail post w n k cs' o' hs
-mail_stays post w n k cs cs' o o' hs h low adds noted inboxes stays is =
+pub mail_stays : {O C : Type 0} (post : Ghosts O C) (w : Scenario) (n k : ℕ) (cs cs' : List model.Carry) (t t' : Traffic O C) → n ≤ length w.steps → length (packets_until w n) ≤ k → Adds k cs cs' →
+    post.notes t'.post w cs' → post.inboxes t'.post ≡ post.inboxes t.post → ((c : C) (column : Column) → post.stands t.post c column → post.stands t'.post c column) → t'.held.items ≡ t.held.items →
+    IsMail post w n k cs t → IsMail post w n k cs' t'
+mail_stays post w n k cs cs' t t' h low adds noted inboxes stays held_is is =
     let came : deliveries w cs' (arrived_to w n k) ≡ deliveries w cs (arrived_to w n k) =
     ap (λ (xs : List model.Carry). deliveries w xs (arrived_to w n k)) adds.is ∙ deliveries_stay w cs adds.more k (arrived_to w n k) adds.late (arrived_below w n k h low) in
     let waits : deliveries w cs' (held_to w n k) ≡ deliveries w cs (held_to w n k) =
@@ -37,6 +39,16 @@ mail_stays post w n k cs cs' o o' hs h low adds noted inboxes stays is =
       noted = noted;
       hosts = ap length inboxes ∙ is.hosts;
       arrived = rw (came, inboxes) is.arrived;
-      held = rw waits (held_still (post.stands o) (post.stands o') hs (deliveries w cs (held_to w n k)) stays is.held);
-      held_inside = is.held_inside;
+      held = rw (waits, held_is) (held_still (post.stands t.post) (post.stands t'.post) t.held.items (deliveries w cs (held_to w n k)) stays is.held);
+      held_inside = rw held_is is.held_inside;
     }
+
+-- nor does a change of the twins
+pub mail_same : {O C : Type 0} (post : Ghosts O C) (w : Scenario) (n k : ℕ) (cs : List model.Carry) (t t' : Traffic O C) → t'.post ≡ t.post → t'.held.items ≡ t.held.items → IsMail post w n k cs t → IsMail post w n k cs t'
+mail_same post w n k cs t t' post_is held_is is = record {
+  noted = rw post_is is.noted;
+  hosts = rw post_is is.hosts;
+  arrived = rw post_is is.arrived;
+  held = rw (post_is, held_is) is.held;
+  held_inside = rw held_is is.held_inside;
+}

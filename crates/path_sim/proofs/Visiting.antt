@@ -26,7 +26,7 @@ use Rattle.path_sim.specs.Sending.{IsVisit}
 use Rattle.path_sim.specs.Taking.{MayTake}
 use Rattle.path_sim.specs.Running.{IsRun, IsMail, at_hops}
 use Rattle.path_sim.proofs.Offers.{offer_is, put_all, offer_yes, offer_no, offer_early, pick_none, seen_all, column_is, empty_hand, in_hand_if, before_more}
-use Rattle.path_sim.proofs.Mailing.{mail_stays}
+use Rattle.path_sim.proofs.Mailing.{mail_stays, mail_same}
 
 module _ {S O C : Type 0} (picks : Picks S) (post : Ghosts O C) (w : Scenario) (m : Visit) (visit : IsVisit w m) where
   -- the switch has counted the packet
@@ -45,8 +45,14 @@ module _ {S O C : Type 0} (picks : Picks S) (post : Ghosts O C) (w : Scenario) (
         few = is.few;
         twins = seen_all w (meeting_is m) (meetings_to w m.number (m.hop - 1)) (meetings_to w m.number m.hop) is.carried t.twins.items t'.twins.items twin is.twins inside visit.next seen';
         cargo_is = rw post_is is.cargo_is;
-        mail = rw (post_is, held_is) is.mail;
+        mail = mail_same post w m.step_at m.number is.carried t t' post_is held_is is.mail;
       }
+
+  pub epoch_is : (t : Traffic O C) (twin : TwinsState) → twin ≡ slice_index_or t.twins.items m.switch_at twin → (start : Offering S) (ps : List S) (hand : Option C) →
+      IsRun picks post w (at_hops w m.step_at m.number (m.hop - 1) (m.hop - 1)) start ps t hand → twin.epoch ≡ ended w m.switch_at m.step_at
+  epoch_is t twin found start ps hand is =
+      let inside : m.switch_at < length t.twins.items = omega (arith, is.twins.count, visit.switch) in
+      ap (λ (x : TwinsState). x.epoch) found ∙ (is.twins.each m.switch_at twin inside).epoch
 
   -- the packet goes on without an offer
   pub passed : (t : Traffic O C) (start : Offering S) (ps : List S) (hand : Option C) (is : IsRun picks post w (at_hops w m.step_at m.number m.hop (m.hop - 1)) start ps t hand) →
@@ -158,5 +164,5 @@ module _ {S O C : Type 0} (picks : Picks S) (post : Ghosts O C) (w : Scenario) (
         twins = put_all w (meeting_is m) (meetings_to w m.number m.hop) cs cs' t.twins.items t'.twins.items now j is.twins inside a.some may.index more
             (put ∙ ap (λ (x : TwinsState). slice_set t.twins.items m.switch_at (with_put x j)) now_is);
         cargo_is = rw there (stands w cs is.mail.noted may);
-        mail = rw held_is (mail_stays post w m.step_at m.number cs cs' t.post t'.post t.held.items visit.inside visit.first adds (noted w cs is.mail.noted may) inboxes stays is.mail);
+        mail = mail_stays post w m.step_at m.number cs cs' t t' visit.inside visit.first adds (noted w cs is.mail.noted may) inboxes stays held_is is.mail;
       }

@@ -11,7 +11,6 @@ use Rattle.lg_model.specs.TwinsState.{TwinsState, AreTwins}
 use Rattle.lg_model.specs.Arriving.{cargo, deliveries}
 use Rattle.lg_model.specs.Midway.{packets_to, arrived_to, held_to, AreDelivered}
 use Rattle.sketchlet_wire.specs.Packing.{IsPacked}
-use Rattle.path_sim.specs.declared.inbox.Held.{Held}
 use Rattle.path_sim.specs.declared.post.Post.{Ghosts}
 use Rattle.path_sim.specs.declared.traffic.Traffic.{Traffic}
 use Rattle.path_sim.specs.Parts.{IsBefore, meetings_to, some_count}
@@ -34,14 +33,22 @@ before_packet w n k = record { step = n; number = k; counted = meetings_in (pack
 abbrev pub at_hops : Scenario → (n k counted offered : ℕ) → Progress
 at_hops w n k counted offered = record { step = n; number = k; counted = meetings_to w k counted; offered = meetings_to w k offered }
 
+-- The packet of number k within the step at n was counted and offered at all hops that it reaches.
+abbrev pub after_packet : Scenario → (n k : ℕ) → Progress
+after_packet w n k = record { step = n; number = k; counted = meetings_in (packets_to w (k + 1)); offered = meetings_in (packets_to w (k + 1)) }
+
 -- For that carry list what came to the hosts and what is held is what the packets before number k within the step at n
 -- brought.
-pub record IsMail {O C : Type 0} (post : Ghosts O C) (w : Scenario) (n k : ℕ) (cs : List model.Carry) (o : O) (hs : List (Held C)) : Type 0 where
-  pub noted : post.notes o w cs
-  pub hosts : length (post.inboxes o) ≡ length w.hosts
-  pub arrived : AreDelivered IsPacked (deliveries w cs (arrived_to w n k)) (post.inboxes o)
-  pub held : AreHeld (post.stands o) (deliveries w cs (held_to w n k)) hs
-  pub held_inside : All (IsInside (length w.hosts)) hs
+pub record IsMail {O C : Type 0} (post : Ghosts O C) (w : Scenario) (n k : ℕ) (cs : List model.Carry) (t : Traffic O C) : Type 0 where
+  pub noted : post.notes t.post w cs
+  pub hosts : length (post.inboxes t.post) ≡ length w.hosts
+  pub arrived : AreDelivered IsPacked (deliveries w cs (arrived_to w n k)) (post.inboxes t.post)
+  pub held : AreHeld (post.stands t.post) (deliveries w cs (held_to w n k)) t.held.items
+  pub held_inside : All (IsInside (length w.hosts)) t.held.items
+
+-- For that carry list it is what the packet of number k carries.
+abbrev pub IsCargo : {O C : Type 0} → Ghosts O C → Scenario → (k : ℕ) → List model.Carry → Traffic O C → Option C → Type 0
+IsCargo post w k cs t hand = MatchedOption (post.stands t.post) hand (cargo w cs k)
 
 -- A run that began with these pickers is that far: there is a carry list that the answers of the pickers give, by these
 -- packets and at most one a packet, the twins and the mail are those of this list, and the cargo is what the packet
@@ -52,8 +59,8 @@ pub record IsRun {S O C : Type 0} (picks : Picks S) (post : Ghosts O C) (w : Sce
   pub before : All (IsBefore (at.number + some_count in_hand)) carried
   pub few : length carried ≤ at.number + some_count in_hand
   pub twins : AreTwins w at.step at.counted carried t.twins.items
-  pub cargo_is : MatchedOption (post.stands t.post) in_hand (cargo w carried at.number)
-  pub mail : IsMail post w at.step at.number carried t.post t.held.items
+  pub cargo_is : IsCargo post w at.number carried t in_hand
+  pub mail : IsMail post w at.step at.number carried t
 
 -- No packet is under way.
 abbrev pub IsRunTo : {S O C : Type 0} → Picks S → Ghosts O C → Scenario → (n k : ℕ) → Offering S → List S → Traffic O C → Type 0

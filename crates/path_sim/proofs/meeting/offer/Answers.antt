@@ -2,27 +2,8 @@ use Rattle.std.proofs.Common.{◌≡◌, ◌<◌, ◌-◌, Some, None, refl, sym
 use Rattle.std.proofs.lemmas.Option.{slice_get-get_or}
 use Rattle.lg_model.specs.TwinsState.{TwinsState}
 use Rattle.path_sim.specs.Running.{IsRun, at_hops}
-use Rattle.path_sim.proofs.Visiting.{Answers, emptied, declined, may_take, taken}
+use Rattle.path_sim.proofs.Visiting.{Answers, emptied, declined, taken}
 use Rattle.path_sim.proofs.meeting.offer.Goals as goal
-
-pub take-requires : goal.take-requires
-take-requires g c =
-    let w = c.args.scenario.now in
-    let m = c.args.m.now in
-    let ps = c.args.pickers.now in
-    let t = c.args.traffic.now in
-    let start = c.requires.run.0 in
-    let is = emptied g.P.Picker.picks g.O.Post w m c.requires.visit t ps c.args.cargo.now c.requires.empty start c.requires.run.1 in
-    let inside : m.switch_at < length ps = omega (arith, c.requires.pickers, c.requires.visit.switch) in
-    let p = slice_index_or ps m.switch_at c.index-pickers-at.result in
-    let a : Answers g.P.Picker.picks g.O.Post w m c.requires.visit t ps c.index-twin.result.now p c.pick.new.self (Some c.in-Some.index) = record {
-      found = c.index-twin.ensures;
-      some = c.requires.epoch;
-      its = slice_get-get_or ps m.switch_at c.index-pickers-at.result inside;
-      says = c.in-Some.ensures.picks;
-      lawful = c.in-Some.ensures.lawful;
-    } in
-    (w, is.carried, is.mail.noted, may_take g.P.Picker.picks g.O.Post w m c.requires.visit t ps c.index-twin.result.now p c.pick.new.self c.in-Some.index c.epoch.result a c.epoch.ensures start is)
 
 pub returns-in-None : goal.returns-in-None
 returns-in-None g c =
