@@ -4,3 +4,4 @@ pub mod Holding
 pub mod Sending
 pub mod Running
 pub mod Arrived
+pub mod Pooling
