@@ -139,6 +139,10 @@ pub all_ok : {X E : Type 0} (r : Result X E) (A B C D F : X → Type 0) → ((x 
 all_ok (Ok x) A B C D F f a b c d = f x a b c d
 all_ok (Err e) A B C D F f a b c d = tt
 
+pub both_ok : {X E : Type 0} (r : Result X E) (A B F : X → Type 0) → ((x : X) → A x → B x → F x) → IfOk r A → IfOk r B → IfOk r F
+both_ok (Ok x) A B F f a b = f x a b
+both_ok (Err e) A B F f a b = tt
+
 -- what a call that lets a cargo arrive says
 pub record Arrives {O C : Type 0} (post : Ghosts O C) (o o' : O) (a : ℕ) (p : C) : Type 0 where
   pub arrived : (c : Column) (ds : List (ℕ × Column)) → post.stands o p c → AreDelivered IsPacked ds (post.inboxes o) → AreDelivered IsPacked (ds ++ (a, c) ∷ []) (post.inboxes o')

@@ -3,11 +3,13 @@ use Rattle.std.specs.Prelude.{◌≡◌, ℕ, ◌<◌, ◌≤◌, ◌-◌, ◌++
 use Rattle.lg_model.specs.declared.limits.TheConstants.{MOST_HOPS, MOST_PACKETS}
 use Rattle.lg_model.specs.Placing.{places_of}
 use Rattle.lg_model.specs.Scenario.{Scenario, reached}
+use Rattle.lg_model.specs.Scenario.{flow_at as flow_of}
+use Rattle.lg_model.specs.declared.scenario.Step.TheVariants as steps
 use Rattle.lg_model.specs.Trace.{Packet, packets, packets_until}
 use Rattle.lg_model.specs.Arriving.{packet_at}
 use Rattle.path_sim.specs.declared.meeting.Visit.{Visit}
 use Rattle.path_sim.specs.declared.sending.Sent.{Sent}
-use Rattle.path_sim.specs.Parts.{meeting_is, meetings_to}
+use Rattle.path_sim.specs.Parts.{meeting_is, meetings_to, step_in}
 
 -- It is a meeting of the scenario, of a packet of its step, at a hop of its path, and it is told as it is.
 pub record IsVisit (w : Scenario) (m : Visit) : Type 0 where
@@ -44,3 +46,12 @@ pub record IsSending (w : Scenario) (k : ℕ) (s : Sent) : Type 0 where
   pub fits : IsFit (length w.switches) s
   pub host : s.flow.now.host_at < length w.hosts
   pub places : s.places.now ≡ places_of w.shape s.flow.now.key
+
+-- A step of the scenario sends these packets.
+pub record IsPacketStep (w : Scenario) (s : Sent) : Type 0 where
+  pub inside : s.step_at < length w.steps
+  pub flow_at : ℕ
+  pub step : step_in w s.step_at ≡ steps.Packet flow_at s.size s.delays.now s.burst s.fate
+  pub flow : s.flow.now ≡ flow_of w.flows flow_at
+  pub places : s.places.now ≡ places_of w.shape s.flow.now.key
+  pub reached_is : s.reached ≡ reached s.fate (length s.flow.now.path)

@@ -6,6 +6,8 @@ mod meeting;
 mod packed;
 mod placing;
 mod post;
+mod running;
 mod sending;
+mod stepping;
 mod traffic;
 pub use carry::Carry;
