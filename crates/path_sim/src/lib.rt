@@ -1,8 +1,11 @@
 #![tactic(auto)]
+mod arrivals;
+mod boxes;
 mod carry;
 mod inbox;
 mod mail;
 mod meeting;
+mod own;
 mod packed;
 mod placing;
 mod post;
@@ -11,3 +14,5 @@ mod sending;
 mod stepping;
 mod traffic;
 pub use carry::Carry;
+pub use arrivals::{Arrivals, run_net};
+pub use own::run_own;
