@@ -1,6 +1,9 @@
 pub mod Offers
 pub mod Onward
+pub mod Delivering
+pub mod Ends
 pub mod Mailing
+pub mod Owning
 pub mod Settling
 pub mod Steps
 pub mod Visiting

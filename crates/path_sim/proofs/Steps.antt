@@ -1,5 +1,5 @@
 -- The packets of a step, and what stands after it.
-use Rattle.std.specs.Prelude.{◌≡◌, ℕ, ◌+◌, ◌<◌, ◌≤◌, true, false, cond, List, [], ◌++◌, map, take, length, reverse, replicate, slice_set, slice_index_or, count_by, All}
+use Rattle.std.specs.Prelude.{◌≡◌, ℕ, ◌+◌, ◌<◌, ◌≤◌, true, false, cond, List, [], ◌++◌, map, take, drop, length, reverse, replicate, slice_set, slice_index_or, count_by, All}
 use Rattle.std.specs.List.{flat_map, enumerate_from}
 use Rattle.std.proofs.Common.{refl, sym, ap, ◌∙◌, subst, arith, append-nil, take_all, add-zero}
 use Rattle.std.proofs.Math.Seq.{take-append_seam}
@@ -109,7 +109,13 @@ sends w k s is step number b low =
       packet = here ∙ (λ i. record { step_at = n; flow = sym step.flow i; size = s.size; delays = s.delays.now; fate = s.fate });
       inside = omega (arith, step.inside);
       first = omega (arith, number);
-      fits = ?;
+      fits = record {
+        path = rw step.flow its.path;
+        few_hops = rw step.flow its.few_hops;
+        delays = rw step.flow fits.1;
+        reached_is = step.reached_is;
+        reach = rw (step.reached_is, step.flow) fits.2;
+      };
       host = rw step.flow its.host;
       places = step.places;
     }
@@ -209,3 +215,7 @@ module _ {S O C : Type 0} (picks : Picks S) (post : Ghosts O C) (w : Scenario) (
           held_inside = rw empty (All-nil (IsInside (length w.hosts)));
         };
       }
+
+-- a Vec that was lent as a slice holds what the slice holds
+pub refill : {X : Type 0} (n : ℕ) (xs ys : List X) → length ys ≡ n → take n (ys ++ drop (length ys) xs) ≡ ys
+refill n xs ys same = ap (λ (a : ℕ). take a (ys ++ drop (length ys) xs)) (sym same) ∙ take-append_seam ys (drop (length ys) xs)

@@ -3,5 +3,8 @@ pub mod Taking
 pub mod Holding
 pub mod Sending
 pub mod Running
+pub mod Boxed
+pub mod Outcome
+pub mod Own
 pub mod Arrived
 pub mod Pooling

@@ -1,5 +1,5 @@
 -- What a run of the network has come to.
-use Rattle.std.specs.Prelude.{◌≡◌, ℕ, ◌+◌, ◌≤◌, List, [], length, All, Option, None}
+use Rattle.std.specs.Prelude.{◌≡◌, ℕ, ◌+◌, ◌≤◌, List, [], length, replicate, All, Option, None}
 use Rattle.lg_model.specs.Scenario.{Scenario}
 use Rattle.lg_model.specs.Trace.{Meeting, meetings, meetings_in}
 use Rattle.lg_model.specs.Matching.{MatchedOption}
@@ -13,6 +13,7 @@ use Rattle.lg_model.specs.Midway.{packets_to, arrived_to, held_to, AreDelivered}
 use Rattle.sketchlet_wire.specs.Packing.{IsPacked}
 use Rattle.path_sim.specs.declared.post.Post.{Ghosts}
 use Rattle.path_sim.specs.declared.traffic.Traffic.{Traffic}
+use Rattle.path_sim.specs.declared.running.Ran.{Ran}
 use Rattle.path_sim.specs.Parts.{IsBefore, meetings_to, some_count}
 use Rattle.path_sim.specs.Holding.{AreHeld, IsInside}
 use Rattle.path_sim.specs.Arrived.{HaveArrived}
@@ -65,3 +66,18 @@ pub record IsRun {S O C : Type 0} (picks : Picks S) (post : Ghosts O C) (w : Sce
 -- No packet is under way.
 abbrev pub IsRunTo : {S O C : Type 0} → Picks S → Ghosts O C → Scenario → (n k : ℕ) → Offering S → List S → Traffic O C → Type 0
 IsRunTo picks post w n k start ps t = IsRun picks post w (before_packet w n k) start ps t None
+
+-- Nothing was posted yet.
+pub record IsFresh {O C : Type 0} (post : Ghosts O C) (w : Scenario) (o : O) : Type 0 where
+  pub noted : post.notes o w []
+  pub inboxes : post.inboxes o ≡ replicate (length w.hosts) []
+
+-- The pickers went from the first list to the second, and there is the carry list that their answers gave: it is
+-- allowed, each host has the columns that it brings, and the twins are those of it.
+pub record HasRun {S O C : Type 0} (picks : Picks S) (post : Ghosts O C) (w : Scenario) (old new : List S) (ran : Ran O) : Type 0 where
+  pub carried : List model.Carry
+  pub noted : post.notes ran.post w carried
+  pub chosen : HaveChosen picks w old new carried
+  pub allowed : IsAllowed w carried
+  pub arrived : HaveArrived w carried (post.inboxes ran.post)
+  pub twins : AreTwins w (length w.steps) (meetings w) carried ran.twins.items
