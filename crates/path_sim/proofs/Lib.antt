@@ -8,4 +8,4 @@ pub mod Settling
 pub mod Steps
 pub mod Visiting
 pub mod Walking
-pub mod Pooled
+pub mod Keeping

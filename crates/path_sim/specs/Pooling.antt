@@ -5,6 +5,7 @@ use Rattle.lg_model.specs.Scenario.{Scenario}
 use Rattle.lg_model.specs.Columns.{Column}
 use Rattle.lg_model.specs.Carrying as model
 use Rattle.lg_model.specs.Arriving.{column_of}
+use Rattle.lg_model.specs.TwinsState.{TwinsState}
 use Rattle.sketchlet_wire.specs.declared.packed.Packed.{Packed}
 use Rattle.sketchlet_wire.specs.Packing.{IsPacked}
 use Rattle.path_sim.specs.declared.slot.Slot.{Slot}
@@ -54,3 +55,9 @@ pub record IsPoolOf (w : Scenario) (cs : List model.Carry) (pool : List Packed) 
   pub short : All (λ (p : Packed). p.len ≤ MOST_SKETCHLET_BYTES) pool
   pub slots_are : AreSlots w pool slots
   pub inside : AreInside pool inboxes
+
+-- What a run leaves: the columns, what came to each host as places among them, and the twins of each switch.
+pub record PooledOutcome : Type 0 where
+  pub kept : List Packed
+  pub places : List (List ℕ)
+  pub twins : List TwinsState

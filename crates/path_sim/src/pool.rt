@@ -19,10 +19,10 @@ use std::alloc::Global;
 #[derive(Drop)]
 pub struct Pool {
     // How many indexes a sketch has.
-    width: usize,
+    pub width: usize,
     pub kept: Vec<Packed>,
     // For each switch, a slot for each index.
-    slots: Vec<Slot>,
+    pub slots: Vec<Slot>,
     pub inboxes: Vec<Inbox<u32>>,
 }
 

@@ -50,9 +50,11 @@ offer-requires-clause-epoch g c =
 pub offer-requires-clause-run : goal.offer-requires-clause-run
 offer-requires-clause-run g c =
     let m = c.args.m.now in
-    let t = c.args.traffic.now in
-    (c.requires.run.0, counted g.P.Picker.picks g.O.Post c.args.scenario.now m c.requires.visit t _ c.index_mut-twin.result.now c.index_mut-twin.ensures.value
-    (ap (λ (x : TwinsState). slice_set t.twins.items m.switch_at x) c.count.ensures) refl refl c.requires.run.0 c.args.pickers.now c.args.cargo.now c.requires.run.1)
+    let t = c.args.traffic.now in (
+      c.requires.run.0,
+      counted g.P.Picker.picks g.O.Post c.args.scenario.now m c.requires.visit t _ c.index_mut-twin.result.now c.index_mut-twin.ensures.value
+          (ap (λ (x : TwinsState). slice_set t.twins.items m.switch_at x) c.count.ensures) refl refl c.requires.run.0 c.args.pickers.now c.args.cargo.now c.requires.run.1,
+    )
 
 pub returns : goal.returns
 returns g c =

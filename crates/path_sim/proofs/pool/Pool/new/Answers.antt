@@ -1,6 +1,6 @@
 use Rattle.std.proofs.Common.{◌≡◌, ◌∙◌, ◌<◌, ◌*◌, List, ℕ, length, replicate, [], sym, ap, subst, refl, arith, rules}
 use Rattle.path_sim.specs.Pooling.{no_slot}
-use Rattle.path_sim.proofs.Pooled.{started}
+use Rattle.path_sim.proofs.Keeping.{started}
 use Rattle.path_sim.proofs.pool.Pool.new.Goals as goal
 
 pub returns-clause-pool : goal.returns-clause-pool
