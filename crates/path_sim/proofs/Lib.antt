@@ -1,7 +1,11 @@
 pub mod Offers
-pub mod Settling
-pub mod Walking
 pub mod Onward
-pub mod Steps
+pub mod Delivering
 pub mod Ends
+pub mod Mailing
 pub mod Owning
+pub mod Settling
+pub mod Steps
+pub mod Visiting
+pub mod Walking
+pub mod Keeping

@@ -5,9 +5,7 @@ use Rattle.std.specs.List.{find}
 use Rattle.std.specs.Option.{option_map, is_some}
 use Rattle.std.proofs.lemmas.List.Elements.{All-push, All-weaker}
 use Rattle.std.proofs.lemmas.List.Folds.{list_any_none}
-use Rattle.std.proofs.lemmas.List.Sums.{count_by-le-length}
 use Rattle.std.proofs.lemmas.Bool.Decides.{eqb_tells}
-use Rattle.std.proofs.lemmas.List.{map-append, length-map}
 use Rattle.std.proofs.lemmas.Bool.{false≢true}
 use Rattle.lg_model.specs.declared.column.Bucket.{Bucket}
 use Rattle.lg_model.specs.declared.column.Dims.{Dims}
@@ -23,10 +21,7 @@ use Rattle.lg_model.specs.TwinsState.{TwinsState, AreTwins, IsTwinsState, offer_
 use Rattle.lg_model.specs.Matching.{MatchedOption}
 use Rattle.lg_model.proofs.Twinning.{twins_put, twins_see}
 use Rattle.lg_model.proofs.Cargo.{cargo_none, cargo_new, buckets_are}
-use Rattle.sketchlet_wire.specs.declared.packed.Packed.{Packed}
-use Rattle.sketchlet_wire.specs.Packing.{IsPacked}
-use Rattle.path_sim.specs.declared.carry.Carry.{Carry}
-use Rattle.path_sim.specs.Parts.{frozen_column, carry_is, carried_are, IsBefore, IsCargo}
+use Rattle.path_sim.specs.Parts.{frozen_column, IsBefore}
 
 pub offer_is : (w : Scenario) (m : Meeting) (ms : List Meeting) (cs : List model.Carry) (ts : List TwinsState) (d : TwinsState) → AreTwins w m.step_at ms cs ts → m.switch_at < length ts →
     offer_of (slice_index_or ts m.switch_at d) ≡ offer_at w cs m
@@ -35,14 +30,9 @@ offer_is w m ms cs ts d all inside =
     λ i. record { width = (is.shape i).width; put = is.put i; times = is.times i }
 
 -- the packet carries the column from then on
-pub carried_push : (w : Scenario) (m : Meeting) (items new : List Carry) (x : Carry) (e j : ℕ) → new ≡ items ++ x ∷ [] → e ≡ ended_before w m →
-    carry_is x ≡ record { packet = m.number; hop = m.hop; switch_at = m.switch_at; epoch = e - 1; index = j } → carried_are new ≡ carried_are items ++ carry_at w m j ∷ []
-carried_push w m items new x e j pushed epoch is =
-    ap carried_are pushed ∙ map-append carry_is items (x ∷ []) ∙ ap (λ (y : model.Carry). carried_are items ++ y ∷ []) (is ∙ (λ i. record { packet = m.number; hop = m.hop; switch_at = m.switch_at; epoch = epoch i - 1; index = j }))
-
-pub put_all : (w : Scenario) (m : Meeting) (ms : List Meeting) (cs cs' : List model.Carry) (ts : List TwinsState) (d t' : TwinsState) (j : ℕ) → AreTwins w m.step_at ms cs ts → m.switch_at < length ts →
-    0 < ended_before w m → j < w.shape.width → cs' ≡ cs ++ carry_at w m j ∷ [] → t' ≡ with_put (slice_index_or ts m.switch_at d) j → AreTwins w m.step_at ms cs' (slice_set ts m.switch_at t')
-put_all w m ms cs cs' ts d t' j all inside some low pushed put =
+pub put_all : (w : Scenario) (m : Meeting) (ms : List Meeting) (cs cs' : List model.Carry) (ts ts' : List TwinsState) (d : TwinsState) (j : ℕ) → AreTwins w m.step_at ms cs ts → m.switch_at < length ts →
+    0 < ended_before w m → j < w.shape.width → cs' ≡ cs ++ carry_at w m j ∷ [] → ts' ≡ slice_set ts m.switch_at (with_put (slice_index_or ts m.switch_at d) j) → AreTwins w m.step_at ms cs' ts'
+put_all w m ms cs cs' ts ts' d j all inside some low pushed put =
     let back : (ended_before w m - 1) + 1 ≡ ended_before w m = omega arith in
     rw (pushed, put) (twins_put w m.step_at ms cs ts (carry_at w m j) d all inside back low)
 
@@ -93,35 +83,19 @@ none_carried n cs all =
 pub before_more : (n : ℕ) (cs : List model.Carry) → All (IsBefore n) cs → All (IsBefore (n + 1)) cs
 before_more n cs all = All-weaker (IsBefore n) (IsBefore (n + 1)) (λ c low. omega arith) cs all
 
--- a packet that carries nothing has no cargo
-pub no_cargo : (w : Scenario) (cs : List model.Carry) (n : ℕ) (p : Option Packed) → model.carries cs n ≡ false → p ≡ None → IsCargo w cs n p
-no_cargo w cs n p none empty =
-    subst (λ (o : Option Packed). MatchedOption IsPacked o (cargo w cs n)) (sym empty) (subst (MatchedOption IsPacked None) (sym (cargo_none w cs n none)) tt)
-
--- and then the column that the switch froze last
-pub new_cargo : (w : Scenario) (m : Meeting) (ms : List Meeting) (cs cs' : List model.Carry) (ts : List TwinsState) (d : TwinsState) (j name : ℕ) (p : Packed) →
-    AreTwins w m.step_at ms cs ts → m.switch_at < length ts → 0 < ended_before w m → model.carries cs m.number ≡ false →
-    cs' ≡ cs ++ carry_at w m j ∷ [] → name ≡ slice_index w.switches m.switch_at →
-    IsPacked p (frozen_column (slice_index_or ts m.switch_at d) name j) → IsCargo w cs' m.number (Some p)
-new_cargo w m ms cs cs' ts d j name p all inside some none pushed name_is is =
+-- the column that the twins froze last, under the name of their switch, is the one that the entry stands for
+pub column_is : (w : Scenario) (m : Meeting) (ms : List Meeting) (cs : List model.Carry) (ts : List TwinsState) (d : TwinsState) (j name : ℕ) →
+    AreTwins w m.step_at ms cs ts → m.switch_at < length ts → 0 < ended_before w m → name ≡ slice_index w.switches m.switch_at →
+    frozen_column (slice_index_or ts m.switch_at d) name j ≡ column_of w (carry_at w m j)
+column_is w m ms cs ts d j name all inside some name_is =
     let t : TwinsState = slice_index_or ts m.switch_at d in
     let twins : IsTwinsState w m.step_at ms cs m.switch_at t = all.each m.switch_at d inside in
-    let col : Column = column_of w (carry_at w m j) in
-    let buckets : column_at t.frozen j ≡ col.cells.buckets = buckets_are w m ms cs ts d j all inside some in
-    let same : frozen_column t name j ≡ col = λ i. record {
+    let buckets : column_at t.frozen j ≡ (column_of w (carry_at w m j)).cells.buckets = buckets_are w m ms cs ts d j all inside some in
+    λ i. record {
       key = record { switch = name_is i; epoch = twins.epoch i - 1; index = j };
       dims = dims_of (twins.shape i);
       cells = record { buckets = buckets i };
-    } in
-    let there : cargo w cs' m.number ≡ Some col = ap (λ xs. cargo w xs m.number) pushed ∙ cargo_new w cs m j none in
-    subst (MatchedOption IsPacked (Some p)) (sym there) (subst (IsPacked p) same is)
-
--- the count of columns put out is below that of all that are carried
-pub put_fits : (w : Scenario) (m : Meeting) (ms : List Meeting) (items : List Carry) (ts : List TwinsState) (d : TwinsState) → AreTwins w m.step_at ms (carried_are items) ts → m.switch_at < length ts →
-    (slice_index_or ts m.switch_at d).put ≤ length items
-put_fits w m ms items ts d all inside =
-    let is : IsTwinsState w m.step_at ms (carried_are items) m.switch_at (slice_index_or ts m.switch_at d) = all.each m.switch_at d inside in
-    omega (arith, is.put, count_by-le-length (is_out m.switch_at (ended w m.switch_at m.step_at)) (carried_are items), length-map items carry_is)
+    }
 
 -- what is carried and what is in hand
 some_found : (n : ℕ) (cs : List model.Carry) → model.carries cs n ≡ true → (c : model.Carry) × (find (λ (x : model.Carry). x.packet == n) cs ≡ Some c)
@@ -132,24 +106,28 @@ some_found n (c ∷ cs) h =
       | inr other ↦ let rest = some_found n cs (rw other.0 at h) in (rest.0, rw other.0 rest.1)
     ]
 
-pub in_hand : (w : Scenario) (cs : List model.Carry) (n : ℕ) (p : Packed) → IsCargo w cs n (Some p) → model.carries cs n ≡ true
-in_hand w cs n p h =
+pub in_hand : {C : Type 0} (stands : C → Column → Type 0) (w : Scenario) (cs : List model.Carry) (n : ℕ) (p : C) → MatchedOption stands (Some p) (cargo w cs n) → model.carries cs n ≡ true
+in_hand stands w cs n p h =
     (elim (model.carries cs n) as (λ (b : Bool). model.carries cs n ≡ b → b ≡ true) [
       | true ↦ λ q. refl
-      | false ↦ λ q. absurd (subst (MatchedOption IsPacked (Some p)) (cargo_none w cs n q) h)
+      | false ↦ λ q. absurd (subst (MatchedOption stands (Some p)) (cargo_none w cs n q) h)
     ]) refl
 
-pub empty_hand : (w : Scenario) (cs : List model.Carry) (n : ℕ) → IsCargo w cs n None → model.carries cs n ≡ false
-empty_hand w cs n h =
+pub empty_hand : {C : Type 0} (stands : C → Column → Type 0) (w : Scenario) (cs : List model.Carry) (n : ℕ) → MatchedOption stands None (cargo w cs n) → model.carries cs n ≡ false
+empty_hand stands w cs n h =
     (elim (model.carries cs n) as (λ (b : Bool). model.carries cs n ≡ b → b ≡ false) [
-      | true ↦ λ q. absurd (let c = some_found n cs q in subst (λ (o : Option model.Carry). MatchedOption IsPacked None (option_map (column_of w) o)) c.1 h)
+      | true ↦ λ q. absurd (let c = some_found n cs q in subst (λ (o : Option model.Carry). MatchedOption stands None (option_map (column_of w) o)) c.1 h)
       | false ↦ λ q. refl
     ]) refl
 
-pub in_hand_if : (w : Scenario) (cs : List model.Carry) (n : ℕ) (p : Option Packed) → is_some p ≡ true → IsCargo w cs n p → model.carries cs n ≡ true
-in_hand_if w cs n None some h = absurd (false≢true some)
-in_hand_if w cs n (Some p) some h = in_hand w cs n p h
+pub in_hand_if : {C : Type 0} (stands : C → Column → Type 0) (w : Scenario) (cs : List model.Carry) (n : ℕ) (p : Option C) → is_some p ≡ true → MatchedOption stands p (cargo w cs n) → model.carries cs n ≡ true
+in_hand_if stands w cs n None some h = absurd (false≢true some)
+in_hand_if stands w cs n (Some p) some h = in_hand stands w cs n p h
 
-pub empty_hand_if : (w : Scenario) (cs : List model.Carry) (n : ℕ) (p : Option Packed) → is_some p ≡ false → IsCargo w cs n p → model.carries cs n ≡ false
-empty_hand_if w cs n None none h = empty_hand w cs n h
-empty_hand_if w cs n (Some p) none h = absurd (false≢true (sym none))
+-- whatever stood for a column still does
+pub cargo_stays : {C : Type 0} (stands stands' : C → Column → Type 0) (p : Option C) (o : Option Column) → ((c : C) (column : Column) → stands c column → stands' c column) →
+    MatchedOption stands p o → MatchedOption stands' p o
+cargo_stays stands stands' None None stays h = tt
+cargo_stays stands stands' None (Some c) stays h = absurd h
+cargo_stays stands stands' (Some p) None stays h = absurd h
+cargo_stays stands stands' (Some p) (Some c) stays h = stays p c h

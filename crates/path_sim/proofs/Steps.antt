@@ -1,7 +1,7 @@
 -- The packets of a step, and what stands after it.
-use Rattle.std.specs.Prelude.{◌≡◌, ℕ, ◌+◌, ◌<◌, ◌≤◌, true, false, cond, List, [], ◌++◌, map, take, length, reverse, replicate, slice_set, slice_index_or, count_by}
+use Rattle.std.specs.Prelude.{◌≡◌, ℕ, ◌+◌, ◌<◌, ◌≤◌, true, false, cond, List, [], ◌++◌, map, take, drop, length, reverse, replicate, slice_set, slice_index_or, count_by, All}
 use Rattle.std.specs.List.{flat_map, enumerate_from}
-use Rattle.std.proofs.Common.{refl, sym, ap, ◌∙◌, subst, arith, append-nil, take_all}
+use Rattle.std.proofs.Common.{refl, sym, ap, ◌∙◌, subst, arith, append-nil, take_all, add-zero}
 use Rattle.std.proofs.Math.Seq.{take-append_seam}
 use Rattle.std.proofs.lemmas.List.{get_or_append_left, get_or-append-add, get_or-replicate, length-replicate, length-append, get_or_default}
 use Rattle.std.proofs.lemmas.List.Elements.{All-get_or, All-nil}
@@ -10,6 +10,8 @@ use Rattle.lg_model.specs.declared.scenario.Step.{Step}
 use Rattle.lg_model.specs.declared.scenario.Step.TheVariants as steps
 use Rattle.lg_model.specs.Scenario.{Scenario, IsScenario, IsStep, IsFlow, flow_at, no_flow, is_end_of, ended}
 use Rattle.lg_model.specs.Trace.{Packet, packets, packet_of, packets_of, packets_until, meetings_in}
+use Rattle.lg_model.specs.Carrying as model
+use Rattle.lg_model.specs.Offering.{Picks, Offering}
 use Rattle.lg_model.specs.TwinsState.{TwinsState, AreTwins, with_end}
 use Rattle.lg_model.specs.Arriving.{packet_at, no_packet, is_release, held, deliveries, arrivals_until}
 use Rattle.lg_model.specs.Columns.{Column}
@@ -17,12 +19,15 @@ use Rattle.lg_model.specs.Midway.{packets_to, arrived_to, held_to, AreDelivered}
 use Rattle.lg_model.proofs.Tracing.{packets_split, packets_from, packets_more, ended_more, ended_rises, length_packets}
 use Rattle.lg_model.proofs.Twinning.{twins_stay, twins_end, twins_end_all}
 use Rattle.lg_model.proofs.Arrivals.{arrived_start, arrived_end, held_start, held_end, arrivals_released, held_released, deliveries_append, deliveries_reverse}
-use Rattle.sketchlet_wire.specs.declared.packed.Packed.{Packed}
-use Rattle.path_sim.specs.declared.traffic.Traffic.{Traffic}
-use Rattle.path_sim.specs.Parts.{carried_are, step_in}
 use Rattle.sketchlet_wire.specs.Packing.{IsPacked}
+use Rattle.path_sim.specs.declared.post.Post.{Ghosts}
+use Rattle.path_sim.specs.declared.sending.Sent.{Sent}
+use Rattle.path_sim.specs.declared.traffic.Traffic.{Traffic}
+use Rattle.path_sim.specs.Parts.{IsBefore, step_in}
 use Rattle.path_sim.specs.Holding.{AreHeld, IsInside}
-use Rattle.path_sim.specs.Moving.{IsTraffic}
+use Rattle.path_sim.specs.Sending.{IsPacketStep, IsSending}
+use Rattle.path_sim.specs.Running.{IsMail, IsRunTo}
+use Rattle.path_sim.proofs.Onward.{nothing_yet}
 
 pub prefix_is : (w : Scenario) (n : ℕ) → n ≤ length w.steps → packets_to w (length (packets_until w n)) ≡ packets_until w n
 prefix_is w n h = ap (take (length (packets_until w n))) (packets_split w n h) ∙ take-append_seam (packets_until w n) (packets_from w n)
@@ -82,91 +87,135 @@ ended_fits w n s is h inside ends =
     let all : ended w s (length w.steps) ≡ count_by (is_end_of s) w.steps = ap (count_by (is_end_of s)) (take_all (length w.steps) w.steps (omega arith)) in
     omega (arith, is.few_ends s inside)
 
--- a step that releases nothing leaves what came and what is held
-pub next_step : (w : Scenario) (n k : ℕ) (old new : Traffic) → n < length w.steps → k ≡ length (packets_until w (n + 1)) → is_release (step_in w n) ≡ false → IsTraffic w n k old →
-    new.carried.items ≡ old.carried.items → new.inboxes.items ≡ old.inboxes.items → new.held.items ≡ old.held.items →
-    AreTwins w (n + 1) (meetings_in (packets_to w k)) (carried_are new.carried.items) new.twins.items → IsTraffic w (n + 1) k new
-next_step w n k old new h number no_release is carried inboxes held_is twins =
-    let came : arrived_to w n k ≡ arrived_to w (n + 1) k = arrived_end w n k h number no_release ∙ sym (arrived_start w (n + 1) k (omega arith) number) in
-    let waits : held_to w n k ≡ held_to w (n + 1) k = held_end w n k h number no_release ∙ sym (held_start w (n + 1) k (omega arith) number) in
-    record {
-      before = rw carried is.before;
-      few_carried = rw carried is.few_carried;
-      names = rw carried is.names;
-      twins = twins;
-      hosts = rw inboxes is.hosts;
-      arrived = rw (carried, inboxes, ← came) is.arrived;
-      held = rw (carried, held_is, ← waits) is.held;
-      held_inside = rw (inboxes, held_is) is.held_inside;
-    }
-
--- a release
-pub released_step : (w : Scenario) (n k : ℕ) (old new : Traffic) (inboxes' : List (List Packed)) → n < length w.steps → k ≡ length (packets_until w n) → step_in w n ≡ steps.Release → IsTraffic w n k old →
-    new.carried.items ≡ old.carried.items → new.twins.items ≡ old.twins.items → new.inboxes.items ≡ inboxes' → length inboxes' ≡ length old.inboxes.items → new.held.items ≡ [] →
-    ((v : Scenario) (ds hs : List (ℕ × Column)) → AreHeld v hs old.held.items → AreDelivered IsPacked ds old.inboxes.items → AreDelivered IsPacked (ds ++ reverse hs) inboxes') → IsTraffic w (n + 1) k new
-released_step w n k old new inboxes' h number step is carried twins inboxes hosts empty came =
-    let cs = carried_are old.carried.items in
-    let releases : is_release (step_in w n) ≡ true = ap is_release step in
-    let quiet : packets_until w (n + 1) ≡ packets_until w n = quiet_more w n h (rw step refl) in
-    let number' : k ≡ length (packets_until w (n + 1)) = number ∙ sym (ap length quiet) in
-    let ends : (s : ℕ) → is_end_of s (step_in w n) ≡ false = λ s. rw step refl in
-    let before : arrived_to w n k ≡ arrivals_until w n = arrived_start w n k (omega arith) number in
-    let waits : held_to w n k ≡ held w n = held_start w n k (omega arith) number in
-    let after : arrived_to w (n + 1) k ≡ arrivals_until w n ++ reverse (held w n) = arrived_start w (n + 1) k (omega arith) number' ∙ arrivals_released w n h step in
-    let none : held_to w (n + 1) k ≡ [] = held_start w (n + 1) k (omega arith) number' ∙ held_released w n h releases in
-    let all : AreDelivered IsPacked (deliveries w cs (arrivals_until w n) ++ reverse (deliveries w cs (held w n))) inboxes' =
-    came w (deliveries w cs (arrivals_until w n)) (deliveries w cs (held w n)) (rw waits at is.held) (rw before at is.arrived) in
-    let joined : deliveries w cs (arrived_to w (n + 1) k) ≡ deliveries w cs (arrivals_until w n) ++ reverse (deliveries w cs (held w n)) =
-    ap (deliveries w cs) after ∙ deliveries_append w cs (arrivals_until w n) (reverse (held w n)) ∙ ap (λ ds. deliveries w cs (arrivals_until w n) ++ ds) (deliveries_reverse w cs (held w n)) in
-    record {
-      before = rw carried is.before;
-      few_carried = rw carried is.few_carried;
-      names = rw carried is.names;
-      twins = rw (carried, twins) (twins_stay w n (meetings_in (packets_to w k)) cs old.twins.items h ends is.twins);
-      hosts = ap length inboxes ∙ hosts ∙ is.hosts;
-      arrived = rw (carried, inboxes, joined) all;
-      held = rw (carried, empty, none) tt;
-      held_inside = rw empty (All-nil (IsInside (length new.inboxes.items)));
-    }
-
 -- the step that the code reads
 pub step_known : (w : Scenario) (n : ℕ) (xs : List Step) (x : Step) → xs ≡ w.steps → n < length w.steps → x ≡ slice_index_or xs n x → step_in w n ≡ x
 step_known w n xs x same h is = get_or_default w.steps n steps.Release x h ∙ ap (λ (ys : List Step). slice_index_or ys n x) (sym same) ∙ sym is
 
-pub epoch_fits : (w : Scenario) (n k s : ℕ) (t : Traffic) (ts : List TwinsState) (d : TwinsState) → IsScenario w → n < length w.steps → IsTraffic w n k t → ts ≡ t.twins.items → s < length ts → is_end_of s (step_in w n) ≡ true → (slice_index_or ts s d).epoch < 65535
-epoch_fits w n k s t ts d is h traffic same inside ends =
-    let low : s < length t.twins.items = subst (λ (xs : List TwinsState). s < length xs) same inside in
-    let epoch : (slice_index_or ts s d).epoch ≡ ended w s n = ap (λ (xs : List TwinsState). (slice_index_or xs s d).epoch) same ∙ (traffic.twins.each s d low).epoch in
-    let few : ended w s n < 65535 = ended_fits w n s is h (omega (arith, traffic.twins.count)) ends in
-    omega arith
-
--- an epoch of one switch ends
-pub ended_one : (w : Scenario) (n k s : ℕ) (old new : Traffic) (ts ts' : List TwinsState) (d : TwinsState) → n < length w.steps → k ≡ length (packets_until w n) → step_in w n ≡ steps.End s → s < length ts → IsTraffic w n k old →
-    ts ≡ old.twins.items → ts' ≡ slice_set ts s (with_end (slice_index_or ts s d)) → new.twins.items ≡ ts' → new.carried.items ≡ old.carried.items → new.inboxes.items ≡ old.inboxes.items → new.held.items ≡ old.held.items →
-    IsTraffic w (n + 1) k new
-ended_one w n k s old new ts ts' d h number step inside is twins set twins_new carried inboxes held_is =
-    let quiet : packets_until w (n + 1) ≡ packets_until w n = quiet_more w n h (rw step refl) in
-    let number' : k ≡ length (packets_until w (n + 1)) = number ∙ sym (ap length quiet) in
-    let cs = carried_are old.carried.items in
-    let before : AreTwins w n (meetings_in (packets_until w n)) cs ts =
-    subst (λ (xs : List TwinsState). AreTwins w n (meetings_in (packets_until w n)) cs xs) (sym twins) (subst (λ (ps : List Packet). AreTwins w n (meetings_in ps) cs old.twins.items) (prefix_at w n k (omega arith) number) is.twins) in
-    let after : AreTwins w (n + 1) (meetings_in (packets_until w (n + 1))) cs (slice_set ts s (with_end (slice_index_or ts s d))) = twins_end w n s cs ts d h step inside before in
-    next_step w n k old new h number' (rw step refl) is carried inboxes held_is
-    (rw (carried, twins_new, set, prefix_at w (n + 1) k (omega arith) number') after)
-
--- and one of every switch
-pub ended_every : (w : Scenario) (n k : ℕ) (old new : Traffic) (ts ts' : List TwinsState) → n < length w.steps → k ≡ length (packets_until w n) → step_in w n ≡ steps.EndAll → IsTraffic w n k old →
-    ts ≡ old.twins.items → ts' ≡ map with_end ts → new.twins.items ≡ ts' → new.carried.items ≡ old.carried.items → new.inboxes.items ≡ old.inboxes.items → new.held.items ≡ old.held.items →
-    IsTraffic w (n + 1) k new
-ended_every w n k old new ts ts' h number step is twins set twins_new carried inboxes held_is =
-    let quiet : packets_until w (n + 1) ≡ packets_until w n = quiet_more w n h (rw step refl) in
-    let number' : k ≡ length (packets_until w (n + 1)) = number ∙ sym (ap length quiet) in
-    let cs = carried_are old.carried.items in
-    let before : AreTwins w n (meetings_in (packets_until w n)) cs ts =
-    subst (λ (xs : List TwinsState). AreTwins w n (meetings_in (packets_until w n)) cs xs) (sym twins) (subst (λ (ps : List Packet). AreTwins w n (meetings_in ps) cs old.twins.items) (prefix_at w n k (omega arith) number) is.twins) in
-    let after : AreTwins w (n + 1) (meetings_in (packets_until w (n + 1))) cs (map with_end ts) = twins_end_all w n cs ts h step before in
-    next_step w n k old new h number' (rw step refl) is carried inboxes held_is
-    (rw (carried, twins_new, set, prefix_at w (n + 1) k (omega arith) number') after)
-
 pub quiet_number : (w : Scenario) (n k : ℕ) → n < length w.steps → k ≡ length (packets_until w n) → packets_of w.flows (n, step_in w n) ≡ [] → k ≡ length (packets_until w (n + 1))
 quiet_number w n k h number quiet = number ∙ sym (ap length (quiet_more w n h quiet))
+
+-- the packets of a step can be sent
+pub sends : (w : Scenario) (k : ℕ) (s : Sent) → IsScenario w → IsPacketStep w s → k ≡ length (packets_until w s.step_at) → (b : ℕ) → b < s.burst → IsSending w (k + b) s
+sends w k s is step number b low =
+    let n = s.step_at in
+    let fits = step_fits w n (steps.Packet step.flow_at s.size s.delays.now s.burst s.fate) is step.inside step.step in
+    let its = flow_fits w step.flow_at is fits.0 in
+    let more = number_more w n step.flow_at s.size s.delays.now s.burst s.fate step.inside step.step in
+    let here : packet_at w (k + b) ≡ packet_of w.flows n step.flow_at s.size s.delays.now s.fate =
+    ap (λ (a : ℕ). packet_at w (a + b)) number ∙ packet_is_at w n step.flow_at s.size s.delays.now s.burst s.fate b step.inside step.step low in
+    record {
+      number = omega (arith, number, more, number_fits w (n + 1) (omega (arith, step.inside)));
+      few = few_packets w is;
+      packet = here ∙ (λ i. record { step_at = n; flow = sym step.flow i; size = s.size; delays = s.delays.now; fate = s.fate });
+      inside = omega (arith, step.inside);
+      first = omega (arith, number);
+      fits = record {
+        path = rw step.flow its.path;
+        few_hops = rw step.flow its.few_hops;
+        delays = rw step.flow fits.1;
+        reached_is = step.reached_is;
+        reach = rw (step.reached_is, step.flow) fits.2;
+      };
+      host = rw step.flow its.host;
+      places = step.places;
+    }
+
+-- a step that releases nothing leaves what came and what is held
+pub next_mail : {O C : Type 0} (post : Ghosts O C) (w : Scenario) (n k : ℕ) (cs : List model.Carry) (t t' : Traffic O C) → n < length w.steps → k ≡ length (packets_until w (n + 1)) → is_release (step_in w n) ≡ false →
+    t'.post ≡ t.post → t'.held.items ≡ t.held.items → IsMail post w n k cs t → IsMail post w (n + 1) k cs t'
+next_mail post w n k cs t t' h number no_release post_is held_is is =
+    let came : arrived_to w n k ≡ arrived_to w (n + 1) k = arrived_end w n k h number no_release ∙ sym (arrived_start w (n + 1) k (omega arith) number) in
+    let waits : held_to w n k ≡ held_to w (n + 1) k = held_end w n k h number no_release ∙ sym (held_start w (n + 1) k (omega arith) number) in
+    record {
+      noted = rw post_is is.noted;
+      hosts = rw post_is is.hosts;
+      arrived = rw (post_is, ← came) is.arrived;
+      held = rw (post_is, held_is, ← waits) is.held;
+      held_inside = rw held_is is.held_inside;
+    }
+
+module _ {S O C : Type 0} (picks : Picks S) (post : Ghosts O C) (w : Scenario) (n k : ℕ) (h : n < length w.steps) where
+  stepped : (t t' : Traffic O C) (start : Offering S) (ps : List S) → k ≡ length (packets_until w (n + 1)) → is_release (step_in w n) ≡ false → t'.post ≡ t.post → t'.held.items ≡ t.held.items →
+      (is : IsRunTo picks post w n k start ps t) → AreTwins w (n + 1) (meetings_in (packets_to w k)) is.carried t'.twins.items → IsRunTo picks post w (n + 1) k start ps t'
+  stepped t t' start ps number no_release post_is held_is is twins = record {
+    carried = is.carried;
+    chosen = is.chosen;
+    before = is.before;
+    few = is.few;
+    twins = twins;
+    cargo_is = rw post_is is.cargo_is;
+    mail = next_mail post w n k is.carried t t' h number no_release post_is held_is is.mail;
+  }
+
+  -- a step that sent packets
+  pub sent_step : (s : Sent) (t : Traffic O C) (start : Offering S) (ps : List S) → IsPacketStep w s → s.step_at ≡ n → k ≡ length (packets_until w (n + 1)) → IsRunTo picks post w n k start ps t → IsRunTo picks post w (n + 1) k start ps t
+  sent_step s t start ps step here number is =
+      let known : step_in w n ≡ steps.Packet step.flow_at s.size s.delays.now s.burst s.fate = ap (step_in w) (sym here) ∙ step.step in
+      let keeps : (a : ℕ) → is_end_of a (step_in w n) ≡ false = λ a. rw known refl in
+      stepped t t start ps number (rw known refl) refl refl is (twins_stay w n (meetings_in (packets_to w k)) is.carried t.twins.items h keeps is.twins)
+
+  -- the epoch that is to end is not the last that a switch can have
+  pub epoch_fits : (t : Traffic O C) (s : ℕ) (ts : List TwinsState) (d : TwinsState) (start : Offering S) (ps : List S) → IsScenario w → ts ≡ t.twins.items → s < length ts → is_end_of s (step_in w n) ≡ true →
+      IsRunTo picks post w n k start ps t → (slice_index_or ts s d).epoch < 65535
+  epoch_fits t s ts d start ps is same inside ends run =
+      let low : s < length t.twins.items = subst (λ (xs : List TwinsState). s < length xs) same inside in
+      let epoch : (slice_index_or ts s d).epoch ≡ ended w s n = ap (λ (xs : List TwinsState). (slice_index_or xs s d).epoch) same ∙ (run.twins.each s d low).epoch in
+      let few : ended w s n < 65535 = ended_fits w n s is h (omega (arith, run.twins.count)) ends in
+      omega arith
+
+  -- before the step the twins are those of the first n steps
+  first_twins : (t : Traffic O C) (start : Offering S) (ps : List S) → k ≡ length (packets_until w n) → (is : IsRunTo picks post w n k start ps t) → AreTwins w n (meetings_in (packets_until w n)) is.carried t.twins.items
+  first_twins t start ps number is = subst (λ (xs : List Packet). AreTwins w n (meetings_in xs) is.carried t.twins.items) (prefix_at w n k (omega (arith, h)) number) is.twins
+
+  -- an epoch of one switch ends
+  pub ended_one : (t t' : Traffic O C) (s : ℕ) (x : TwinsState) (start : Offering S) (ps : List S) → k ≡ length (packets_until w n) → step_in w n ≡ steps.End s → s < length w.switches → x ≡ slice_index_or t.twins.items s x →
+      t'.twins.items ≡ slice_set t.twins.items s (with_end x) → t'.post ≡ t.post → t'.held.items ≡ t.held.items → IsRunTo picks post w n k start ps t → IsRunTo picks post w (n + 1) k start ps t'
+  ended_one t t' s x start ps number step inside found set post_is held_is is =
+      let number' : k ≡ length (packets_until w (n + 1)) = quiet_number w n k h number (rw step refl) in
+      let after = twins_end w n s is.carried t.twins.items x h step (omega (arith, inside, is.twins.count)) (first_twins t start ps number is) in
+      stepped t t' start ps number' (rw step refl) post_is held_is is
+      (rw (set ∙ ap (λ (y : TwinsState). slice_set t.twins.items s (with_end y)) found, prefix_at w (n + 1) k (omega (arith, h)) number') after)
+
+  -- and one of every switch
+  pub ended_every : (t t' : Traffic O C) (start : Offering S) (ps : List S) → k ≡ length (packets_until w n) → step_in w n ≡ steps.EndAll →
+      t'.twins.items ≡ map with_end t.twins.items → t'.post ≡ t.post → t'.held.items ≡ t.held.items → IsRunTo picks post w n k start ps t → IsRunTo picks post w (n + 1) k start ps t'
+  ended_every t t' start ps number step set post_is held_is is =
+      let number' : k ≡ length (packets_until w (n + 1)) = quiet_number w n k h number (rw step refl) in
+      let after = twins_end_all w n is.carried t.twins.items h step (first_twins t start ps number is) in
+      stepped t t' start ps number' (rw step refl) post_is held_is is (rw (set, prefix_at w (n + 1) k (omega (arith, h)) number') after)
+
+  -- a release
+  pub released_step : (t t' : Traffic O C) (start : Offering S) (ps : List S) → k ≡ length (packets_until w n) → step_in w n ≡ steps.Release → t'.twins.items ≡ t.twins.items → t'.held.items ≡ [] →
+      length (post.inboxes t'.post) ≡ length (post.inboxes t.post) → ((v : Scenario) (cs : List model.Carry) → post.notes t.post v cs → post.notes t'.post v cs) →
+      ((ds hs : List (ℕ × Column)) → AreHeld (post.stands t.post) hs t.held.items → AreDelivered IsPacked ds (post.inboxes t.post) → AreDelivered IsPacked (ds ++ reverse hs) (post.inboxes t'.post)) →
+      IsRunTo picks post w n k start ps t → IsRunTo picks post w (n + 1) k start ps t'
+  released_step t t' start ps number step twins empty hosts noted came is =
+      let cs = is.carried in
+      let number' : k ≡ length (packets_until w (n + 1)) = quiet_number w n k h number (rw step refl) in
+      let ends : (s : ℕ) → is_end_of s (step_in w n) ≡ false = λ s. rw step refl in
+      let before : arrived_to w n k ≡ arrivals_until w n = arrived_start w n k (omega (arith, h)) number in
+      let waits : held_to w n k ≡ held w n = held_start w n k (omega (arith, h)) number in
+      let after : arrived_to w (n + 1) k ≡ arrivals_until w n ++ reverse (held w n) = arrived_start w (n + 1) k (omega (arith, h)) number' ∙ arrivals_released w n h step in
+      let none : held_to w (n + 1) k ≡ [] = held_start w (n + 1) k (omega (arith, h)) number' ∙ held_released w n h (ap is_release step) in
+      let all = came (deliveries w cs (arrivals_until w n)) (deliveries w cs (held w n)) (rw waits at is.mail.held) (rw before at is.mail.arrived) in
+      let joined : deliveries w cs (arrived_to w (n + 1) k) ≡ deliveries w cs (arrivals_until w n) ++ reverse (deliveries w cs (held w n)) =
+      ap (deliveries w cs) after ∙ deliveries_append w cs (arrivals_until w n) (reverse (held w n)) ∙ ap (λ ds. deliveries w cs (arrivals_until w n) ++ ds) (deliveries_reverse w cs (held w n)) in
+      record {
+        carried = cs;
+        chosen = is.chosen;
+        before = is.before;
+        few = is.few;
+        twins = rw twins (twins_stay w n (meetings_in (packets_to w k)) cs t.twins.items h ends is.twins);
+        cargo_is = nothing_yet (post.stands t'.post) w cs k (subst (λ (a : ℕ). All (IsBefore a) cs) (add-zero k) is.before);
+        mail = record {
+          noted = noted w cs is.mail.noted;
+          hosts = hosts ∙ is.mail.hosts;
+          arrived = rw joined all;
+          held = rw (empty, none) tt;
+          held_inside = rw empty (All-nil (IsInside (length w.hosts)));
+        };
+      }
+
+-- a Vec that was lent as a slice holds what the slice holds
+pub refill : {X : Type 0} (n : ℕ) (xs ys : List X) → length ys ≡ n → take n (ys ++ drop (length ys) xs) ≡ ys
+refill n xs ys same = ap (λ (a : ℕ). take a (ys ++ drop (length ys) xs)) (sym same) ∙ take-append_seam ys (drop (length ys) xs)

@@ -1,7 +1,10 @@
 pub mod Parts
+pub mod Taking
 pub mod Holding
 pub mod Sending
-pub mod Moving
+pub mod Running
+pub mod Boxed
 pub mod Outcome
-pub mod Arrived
 pub mod Own
+pub mod Arrived
+pub mod Pooling

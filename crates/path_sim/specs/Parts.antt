@@ -5,16 +5,13 @@ use Rattle.lg_model.specs.declared.scenario.Step.{Step}
 use Rattle.lg_model.specs.declared.scenario.Step.TheVariants as steps
 use Rattle.lg_model.specs.Placing.{Shape, places_of}
 use Rattle.lg_model.specs.Scenario.{Scenario}
-use Rattle.lg_model.specs.Matching.{MatchedOption}
 use Rattle.lg_model.specs.Trace.{Meeting, meetings_in, meetings_of}
 use Rattle.lg_model.specs.Carrying as model
-use Rattle.lg_model.specs.Arriving.{packet_at, cargo}
+use Rattle.lg_model.specs.Arriving.{packet_at}
 use Rattle.lg_model.specs.Columns.{Column, dims_of}
 use Rattle.lg_model.specs.Sketch.{column_at}
 use Rattle.lg_model.specs.TwinsState.{TwinsState}
 use Rattle.lg_model.specs.Midway.{packets_to}
-use Rattle.sketchlet_wire.specs.declared.packed.Packed.{Packed}
-use Rattle.sketchlet_wire.specs.Packing.{IsPacked}
 use Rattle.path_sim.specs.declared.meeting.Visit.{Visit}
 use Rattle.path_sim.specs.declared.carry.Carry.{Carry}
 
@@ -34,10 +31,6 @@ frozen_column t switch index = record {
   dims = dims_of t.shape;
   cells = record { buckets = column_at t.frozen index };
 }
-
--- What a packet carries is its cargo.
-abbrev pub IsCargo : Scenario → List model.Carry → ℕ → Option Packed → Type 0
-IsCargo w cs n p = MatchedOption IsPacked p (cargo w cs n)
 
 -- 1 where there is something, else 0.
 abbrev pub some_count : {X : Type 0} → Option X → ℕ

@@ -4,20 +4,16 @@ ghost use Rattle.lg_model.specs.Trace.{meetings};
 ghost use Rattle.lg_model.specs.Carrying.{IsAllowed};
 ghost use Rattle.lg_model.specs.Offering.{HaveChosen};
 ghost use Rattle.lg_model.specs.TwinsState.{TwinsState, AreTwins};
-ghost use Rattle.path_sim.specs.Parts.{carried_are, flow_places, IsNamed};
-ghost use Rattle.path_sim.specs.Moving.{IsTraffic, HasEnded};
+ghost use Rattle.path_sim.specs.Parts.{carried_are, IsNamed};
 ghost use Rattle.path_sim.specs.Arrived.{HaveArrived};
 
+use crate::boxes::Boxes;
 use crate::carry::Carry;
 use crate::inbox::Inbox;
-use crate::mail::release;
-use crate::placing::places_of_flows;
-use crate::stepping::step_once;
-use crate::traffic::Traffic;
+use crate::running::{Ran, run_over};
 use column_pick::Picker;
 use epoch_freeze::Twins;
 use lg_base::Memory;
-use row_hash::Places;
 use scenario_text::Scenario;
 use sketchlet_wire::Packed;
 use std::alloc::Global;
@@ -27,7 +23,7 @@ use std::marker::Model;
 /// twins of each switch.
 #[derive(Drop)]
 pub struct Arrivals {
-    inboxes: Vec<Inbox>,
+    inboxes: Vec<Inbox<Packed>>,
     carried: Vec<Carry>,
     twins: Vec<Twins>,
 }
@@ -65,48 +61,6 @@ impl Arrivals {
     }
 }
 
-// Before the first step: fresh twins for each switch, and an empty inbox for each host.
-fn begin(alloc: Global, scenario: &Scenario) -> Result<Traffic, Memory>
-    ensures { IfOk result (λ t. IsTraffic scenario.now 0 0 t × (t.carried.items ≡ [])) }
-{
-    let shape = scenario.shape();
-    let mut twins = Vec::new(alloc);
-    for _switch in scenario.switches() {
-        twins.push(Twins::new(alloc, &shape)?)?;
-    }
-    let mut inboxes = Vec::new(alloc);
-    for _host in scenario.hosts() {
-        inboxes.push(Inbox::new(alloc))?;
-    }
-    Ok(Traffic {
-        twins,
-        carried: Vec::new(alloc),
-        inboxes,
-        held: Vec::new(alloc),
-    })
-}
-
-// All steps, one after the other.
-fn run_steps<P: Picker>(
-    scenario: &Scenario,
-    places: &[Places],
-    pickers: &mut [P],
-    traffic: &mut Traffic,
-) -> Result<(), Memory>
-    requires pickers { length pickers.old ≡ length scenario.now.switches }
-    requires places { places.now ≡ flow_places scenario.now }
-    requires carried { traffic.old.carried.items ≡ [] }
-    requires traffic { IsTraffic scenario.now 0 0 traffic.old }
-    ensures traffic { IfOk result (λ _. HasEnded scenario.now traffic.new) }
-    ensures picks { IfOk result (λ _. HaveChosen P.picks scenario.now pickers.old pickers.new (carried_are traffic.new.carried.items)) }
-{
-    let mut number = 0;
-    for n in 0..scenario.steps().len() {
-        number = step_once(scenario, places, number, n, pickers, traffic)?;
-    }
-    Ok(())
-}
-
 /// Runs the network of a scenario with one picker for each switch, in the order of declaration. Linear in packets times
 /// hops, and in flows. Memory where there is none for the sketches, for the places of the flows, for what is carried or
 /// for what arrives.
@@ -124,16 +78,9 @@ pub fn run_net<P: Picker>(
     ensures arrived { IfOk result (λ a. HaveArrived scenario.now (carried_are a.carried) a.inboxes) }
     ensures twins { IfOk result (λ a. AreTwins scenario.now (length scenario.now.steps) (meetings scenario.now) (carried_are a.carried) a.twins) }
 {
-    let mut traffic = begin(alloc, scenario)?;
-    let places = places_of_flows(alloc, scenario)?;
-    run_steps(scenario, &places, pickers, &mut traffic)?;
-    let Traffic {
-        twins,
-        carried,
-        mut inboxes,
-        mut held,
-    } = traffic;
-    release(&mut inboxes, &mut held)?;
+    let boxes = Boxes::new(alloc, scenario)?;
+    let Ran { post, twins } = run_over(alloc, scenario, pickers, boxes)?;
+    let Boxes { inboxes, carried } = post;
     Ok(Arrivals {
         inboxes,
         carried,

@@ -2,54 +2,52 @@
 ghost use Rattle.std.specs.Prelude.{◌≡◌, ◌∷◌, ◌++◌, [], IfOk};
 
 use lg_base::Memory;
-use sketchlet_wire::Packed;
 use std::alloc::Global;
 use std::marker::Model;
 
-/// The columns that came to a host, packed, in order of arrival.
+/// What came to a host, in order of arrival: packed columns, or the positions of columns that are kept elsewhere.
 #[derive(Drop)]
-pub struct Inbox {
-    packed: Vec<Packed>,
+pub struct Inbox<C: Copy> {
+    items: Vec<C>,
 }
 
-impl Model for Inbox {
+impl<C: Copy> Model for Inbox<C> {
     ghost use Rattle.std.specs.Prelude.{List};
-    ghost use Rattle.sketchlet_wire.specs.declared.packed.Packed.{Packed};
 
-    ghost Value = { List Packed };
+    ghost Value = { List C };
 
-    ghost view = { λ i. i.packed.items };
+    ghost view = { λ i. i.items.items };
 }
 
-impl Inbox {
+impl<C: Copy> Inbox<C> {
     /// An empty inbox, which takes no memory yet.
-    pub fn new(alloc: Global) -> Inbox
+    pub fn new(alloc: Global) -> Inbox<C>
         ensures { result ≡ [] }
     {
         Inbox {
-            packed: Vec::new(alloc),
+            items: Vec::new(alloc),
         }
     }
 
-    /// Puts a column after the others. Memory where there is none for it; the inbox is then as before.
-    pub fn push(&mut self, packed: &Packed) -> Result<(), Memory>
-        ensures { IfOk result (λ _. self.new ≡ self.old ++ packed.now ∷ []) }
+    /// Puts an item after the others. Memory where there is none for it; the inbox is then as before.
+    pub fn push(&mut self, item: C) -> Result<(), Memory>
+        ensures { IfOk result (λ _. self.new ≡ self.old ++ item ∷ []) }
     {
-        self.packed.push(*packed)?;
+        self.items.push(item)?;
         Ok(())
     }
 
-    /// The columns, in order of arrival.
-    pub fn items(&self) -> &[Packed]
+    /// The items, in order of arrival.
+    pub fn items(&self) -> &[C]
         ensures { result.now ≡ self.now }
     {
-        &self.packed
+        &self.items
     }
 }
 
-/// A column that waits for a release, and the position of its host.
+/// A cargo that waits for a release, and the position of its host.
 #[derive(Clone, Copy, Debug)]
-pub struct Held {
+pub struct Held<C> {
     pub host_at: u16,
-    pub packed: Packed,
+    pub cargo: C,
 }

@@ -15,7 +15,7 @@ use scenario_text::Scenario;
 use std::alloc::Global;
 
 // A fresh picker for each switch, in the order of declaration.
-fn own_pickers(alloc: Global, scenario: &Scenario) -> Result<Vec<AnyPicker>, Memory>
+pub(crate) fn own_pickers(alloc: Global, scenario: &Scenario) -> Result<Vec<AnyPicker>, Memory>
     ensures fresh { IfOk result (λ ps. AreFresh scenario.now ps.items) }
     ensures fits { IsScenario scenario.now }
 {

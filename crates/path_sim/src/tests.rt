@@ -1,6 +1,6 @@
 //! Runs of small networks. The expected values are worked out by hand or come from a simulator in another language.
 
-use crate::{Carry, run_net, run_own};
+use crate::{Carry, run_net, run_own, run_pooled};
 use column_pick::Script;
 use lg_base::MemorySource;
 use scenario_text::{Scenario, read};
@@ -39,6 +39,10 @@ const TWO_COLUMNS: &str =
 // Three switches that end different numbers of epochs.
 const OWN_ENDS: &str =
     "guardian 1\nshape 1 1 ports\npick turns\nhost 1\nswitch 9\nswitch 4\nswitch 6\nend 4\nend all\nend 4\nend 9\nend 4\ndone\n";
+
+// Epochs whose columns are taken anew, at one index and by two hosts.
+const THREE_EPOCHS: &str =
+    "guardian 1\nshape 1 2 ports\npick turns\nhost 7\nhost 3\nswitch 5\nflow 1 10.0.0.1 10.0.0.2 6 2 1 host 7 path 5\nflow 2 10.0.0.1 10.0.0.2 6 3 1 host 3 path 5\npacket 1 100 10\nend 5\npacket 1 10 1 burst 3\npacket 2 10 1 twice\nend 5\npacket 2 10 1 burst 4\npacket 1 10 1 late\nend 5\npacket 1 10 1 burst 2\ndone\n";
 
 // The packet, the hop, the position and the name of the switch, the epoch and the index.
 type Entry = (u32, u8, u16, u16, u32, u16);
@@ -183,6 +187,27 @@ fn twins_of_each_switch(rt: HostRuntime) -> Result<(), Fail> {
     let arrivals = run_net(rt.alloc(), &scenario, &mut pickers)?;
     for (switch_at, epoch) in [(0, 2), (1, 4), (2, 1)] {
         assert_eq!(rt; arrivals.twins(switch_at).epoch(), epoch, "{switch_at}");
+    }
+    Ok(())
+}
+
+// The same columns come to each host in the same order, and a column that comes more than once is packed once.
+#[test]
+fn columns_are_kept_once(rt: HostRuntime) -> Result<(), Fail> {
+    for (text, columns) in [(TWO_HOPS, 2), (LOST, 2), (TWO_HOSTS, 2), (THREE_EPOCHS, 6)] {
+        let scenario = scenario(rt.alloc(), text)?;
+        let own = run_own(rt.alloc(), &scenario)?;
+        let pooled = run_pooled(rt.alloc(), &scenario)?;
+        assert_eq!(rt; pooled.kept().len(), columns);
+
+        for host_at in 0..scenario.hosts().len() {
+            let wants = own.arrived(host_at as u16);
+            let got = pooled.arrived(host_at as u16);
+            assert_eq!(rt; got.len(), wants.len(), "host {host_at}");
+            for (position, want) in got.iter().zip(wants) {
+                assert_eq!(rt; pooled.kept()[*position as usize], *want);
+            }
+        }
     }
     Ok(())
 }

@@ -1,14 +1,12 @@
 //! What has happened in the network so far.
-use crate::carry::Carry;
-use crate::inbox::{Held, Inbox};
+use crate::inbox::Held;
+use crate::post::Post;
 use epoch_freeze::Twins;
 
-/// The twins of the switches, the carried columns, the inboxes of the hosts, and the columns that are held, each in
-/// the order in which it came to be.
+/// The twins of the switches, where the columns go, and what is held, in the order in which it was sent.
 #[derive(Drop)]
-pub struct Traffic {
+pub struct Traffic<O: Post + Drop> {
     pub twins: Vec<Twins>,
-    pub carried: Vec<Carry>,
-    pub inboxes: Vec<Inbox>,
-    pub held: Vec<Held>,
+    pub post: O,
+    pub held: Vec<Held<O::Cargo>>,
 }
