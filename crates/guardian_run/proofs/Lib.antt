@@ -9,3 +9,4 @@ pub mod Told
 pub mod Left
 pub mod RunEnding
 pub mod Showing
+pub mod Places

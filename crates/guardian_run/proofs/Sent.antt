@@ -32,9 +32,7 @@ use Rattle.book_laws.specs.Keeping.{HasKeysOnce}
 use Rattle.book_laws.specs.Legal.{host_at, no_host, uploads_at}
 use Rattle.book_laws.specs.Workers.{Worker, IsWork}
 use Rattle.book_laws.specs.Laws.{LawOfWorkers}
-use Rattle.book_laws.proofs.Uploads.{numbered_at}
 use Rattle.link_deliveries.proofs.Idle.{count-cons}
-use Rattle.upload_world.proofs.Sending.{upload_is}
 use Rattle.guardian_run.proofs.Keeping.{range_more}
 use Rattle.host_workers.specs.declared.sender.Sender.{Sender}
 use Rattle.host_workers.specs.Working.{HasCallsFor, HaveWorked}
@@ -82,16 +80,6 @@ few_at w inboxes h fits arrived low =
     let most = arrived.few h inside in
     let packets : packet_count w.steps ≤ 1000000 = fits.fits.few_packets in
     omega (arith, few, same, most, packets)
-
--- they are the uploads of their host by their numbers
-pub own_at : (w : Scenario) (inboxes : List (List Packed)) (h : ℕ) → IsWhole w → HaveArrived w (picked w) inboxes → h < length w.hosts → AreOwn (host_at w h).name (uploads_at w h)
-own_at w inboxes h fits arrived low = record {
-  few = let most = few_at w inboxes h fits arrived low in omega (arith, most);
-  each = λ q u is.
-      let n = numbered_at w h q (get_low (uploads_at w h) q u is) in
-      let same = upload_is (uploads_at w h) q u is in
-      (ap (λ (x : UploadData). x.host) same ∙ n.host, ap (λ (x : UploadData). x.seq) same ∙ n.seq);
-}
 
 pub senders_count : (w : Scenario) (n : ℕ) (ss : List Sender) → AreSenders w n ss → length ss ≡ n
 senders_count w n ss are = sym (length-map ss sending_of) ∙ ap length are ∙ length-map (range_with_len 0 n) (sending_at w) ∙ length-range_with_len 0 n

@@ -11,3 +11,4 @@ pub mod Sending
 pub mod Running
 pub mod Telling
 pub mod Showing
+pub mod Arrived

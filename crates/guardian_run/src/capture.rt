@@ -1,11 +1,12 @@
 //! The command `capture`: the sketchlets that came to the hosts, as text.
-ghost use Rattle.std.specs.Prelude.{◌≡◌, ◌<◌, ◌≤◌, ◌+◌, ◌++◌, ◌^◌, length, slice_index_or, Ok, Err, IfOk, IfErr};
+ghost use Rattle.std.specs.Prelude.{◌≡◌, ◌<◌, ◌≤◌, ◌+◌, ◌++◌, ◌^◌, length, slice_index_or, All, Ok, Err, IfOk, IfErr};
 ghost use Rattle.lg_model.specs.Matching.{Matched};
 ghost use Rattle.lg_model.specs.Carrying.{picked};
 ghost use Rattle.lg_model.specs.Arriving.{brought};
 ghost use Rattle.lg_model.specs.declared.scenario.HostLine.{HostLine};
 ghost use Rattle.sketchlet_wire.specs.Packing.{IsPacked};
-ghost use Rattle.path_sim.specs.Arrived.{HaveArrived};
+ghost use Rattle.path_sim.specs.Pooling.{items_at};
+ghost use Rattle.guardian_run.specs.Arrived.{HavePooled};
 ghost use Rattle.guardian_run.specs.Changes.{change};
 ghost use Rattle.guardian_run.specs.Outputs.{host_lines, capture_of};
 ghost use Rattle.guardian_run.specs.Outcomes.{Captures};
@@ -14,33 +15,39 @@ ghost use Rattle.guardian_run.specs.Giving.{GivesOfText};
 use crate::refusal::Refusal;
 use lg_base::{Memory, Source};
 use lg_model::HostLine;
-use path_sim::{Arrivals, run_own};
+use path_sim::{PooledArrivals, run_pooled};
 use report_text::{put_hex_line, put_sketchlets_line};
 use run_laws::runs_are_true;
 use scenario_text::{Scenario, read};
 use sketchlet_wire::Packed;
 use std::alloc::Global;
 
-// The lines of what came to the host at a position. Memory where there is none for one of them.
+// The lines of what came to the host at a position, as places among the kept columns. Memory where there is none for one of them.
 fn put_host(
     scenario: &Scenario,
     host_at: u16,
     host: &HostLine,
-    arrived: &[Packed],
+    kept: &[Packed],
+    arrived: &[u32],
     text: &mut Vec<u8>,
 ) -> Result<(), Memory>
-    requires { Matched IsPacked arrived.now (brought scenario.now (picked scenario.now) host_at) }
+    requires inside { All (λ k. k < length kept.now) arrived.now }
+    requires packed { Matched IsPacked (items_at kept.now arrived.now) (brought scenario.now (picked scenario.now) host_at) }
     ensures { IfOk result (λ _. text.new.items ≡ text.old.items ++ host_lines scenario.now (host_at, host.now)) }
 {
-    for packed in arrived {
-        put_hex_line(text, host.name, packed)?;
+    for place in arrived {
+        put_hex_line(text, host.name, &kept[*place as usize])?;
     }
     Ok(())
 }
 
 // The lines of all that came to the hosts, host after host, and how many they are. Memory where there is none for them.
-fn capture_lines(alloc: Global, scenario: &Scenario, arrivals: &Arrivals) -> Result<Vec<u8>, Memory>
-    requires { HaveArrived scenario.now (picked scenario.now) arrivals.now.inboxes }
+fn capture_lines(
+    alloc: Global,
+    scenario: &Scenario,
+    arrivals: &PooledArrivals,
+) -> Result<Vec<u8>, Memory>
+    requires { HavePooled scenario.now arrivals.now }
     ensures { IfOk result (λ text. text.items ≡ capture_of scenario.now) }
 {
     let mut text = Vec::new(alloc);
@@ -48,7 +55,14 @@ fn capture_lines(alloc: Global, scenario: &Scenario, arrivals: &Arrivals) -> Res
     let hosts = scenario.hosts();
     for at in 0..hosts.len() {
         let arrived = arrivals.arrived(at as u16);
-        put_host(scenario, at as u16, &hosts[at], arrived, &mut text)?;
+        put_host(
+            scenario,
+            at as u16,
+            &hosts[at],
+            arrivals.kept(),
+            arrived,
+            &mut text,
+        )?;
         count += arrived.len();
     }
     put_sketchlets_line(&mut text, count)?;
@@ -65,7 +79,7 @@ pub fn capture<S: Source>(alloc: Global, source: &mut S) -> Result<Vec<u8>, Refu
 {
     runs_are_true();
     let scenario = read(alloc, source)?;
-    let arrivals = run_own(alloc, &scenario)?;
+    let arrivals = run_pooled(alloc, &scenario)?;
     let text = capture_lines(alloc, &scenario, &arrivals)?;
     Ok(text)
 }

@@ -4,7 +4,7 @@ ghost use Rattle.lg_base.specs.Causes.{Rose};
 ghost use Rattle.lg_model.specs.Scenario.{packet_count};
 ghost use Rattle.lg_model.specs.Carrying.{picked};
 ghost use Rattle.lg_model.specs.Arriving.{brought_to_all};
-ghost use Rattle.path_sim.specs.Arrived.{HaveArrived};
+ghost use Rattle.guardian_run.specs.Arrived.{HavePooled};
 ghost use Rattle.scenario_parts.specs.Whole.{IsWhole};
 ghost use Rattle.scenario_make.specs.Generator.{generated};
 ghost use Rattle.column_book.specs.declared.book.TheConstants.{ROOM};
@@ -28,7 +28,7 @@ use column_book::{Book, ROOM};
 use flow_query::answer;
 use lg_base::{Gate, Memory, Sink};
 use lg_disk::Disk;
-use path_sim::{Arrivals, run_own};
+use path_sim::{PooledArrivals, run_pooled};
 use report_text::{Summary, put_summary};
 use scenario_make::{generated_are_scenarios, make};
 use scenario_text::Scenario;
@@ -37,8 +37,8 @@ use std::sync::Wait;
 use std::thread::Threads;
 
 // How many sketchlets came to the hosts.
-fn arrived(scenario: &Scenario, arrivals: &Arrivals) -> usize
-    requires { HaveArrived scenario.now (picked scenario.now) arrivals.now.inboxes }
+fn arrived(scenario: &Scenario, arrivals: &PooledArrivals) -> usize
+    requires { HavePooled scenario.now arrivals.now }
     ensures { result ≡ length (brought_to_all scenario.now (picked scenario.now)) }
 {
     let mut count = 0;
@@ -70,12 +70,12 @@ fn summary_text(
     alloc: Global,
     rounds: u32,
     scenario: &Scenario,
-    arrivals: &Arrivals,
+    arrivals: &PooledArrivals,
     book: &Book,
 ) -> Result<Vec<u8>, Memory>
     requires few { rounds ≤ 1000 }
     requires generated { scenario.now ≡ generated rounds }
-    requires arrived { HaveArrived scenario.now (picked scenario.now) arrivals.now.inboxes }
+    requires arrived { HavePooled scenario.now arrivals.now }
     requires shape { book.now.shape ≡ scenario.now.shape }
     ensures { IfOk result (λ text. text.items ≡ summary rounds (content book.now.entries) scenario.now) }
 {
@@ -119,7 +119,7 @@ fn show<D: Disk + Send, G: Gate, R: Threads + Wait + Sync>(
         journal result.1 NoMemory no_memory_line) }
     ensures goes_on { GoesOn D.honest D.seen D.images D.moment D.since D.faults journal result.1 }
 {
-    let arrivals = match run_own(alloc, scenario) {
+    let arrivals = match run_pooled(alloc, scenario) {
         Ok(arrivals) => arrivals,
         Err(_) => return (Err(Memory), journal),
     };

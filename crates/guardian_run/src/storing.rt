@@ -1,23 +1,22 @@
 //! The uploads of a run: what came to the hosts is cut, and a worker for each host sends it over the host's link into the
 //! book (docs/DEFINITIONS.md, Runs over a book).
 ghost use Rattle.std.specs.Prelude.{◌≡◌, ◌<◌, ◌*◌, ◌≤◌, length, None, All, IfOk, IfErr};
-ghost use Rattle.lg_model.specs.Carrying.{picked};
 ghost use Rattle.scenario_parts.specs.Whole.{IsWhole};
 ghost use Rattle.column_book.specs.declared.book.TheConstants.{ROOM};
 ghost use Rattle.column_book.specs.Entries.{records};
-ghost use Rattle.path_sim.specs.Arrived.{HaveArrived};
 ghost use Rattle.book_laws.specs.Keeping.{HasKeysOnce};
 ghost use Rattle.shared_book.specs.Going.{GoesOn};
 ghost use Rattle.host_workers.specs.Working.{HasCallsFor, HasSeats};
+ghost use Rattle.guardian_run.specs.Arrived.{HavePooled};
 ghost use Rattle.guardian_run.specs.Sending.{uploader_at, AreSenders, HaveSent};
 
 use book_journal::Journal;
 use book_laws::workers_leave_legal_lists;
-use host_collect::uploads;
+use host_collect::PackedUploads;
 use host_workers::{Seats, Sender, room_for, run_workers};
 use lg_base::{Gate, Memory};
 use lg_disk::Disk;
-use path_sim::Arrivals;
+use path_sim::PooledArrivals;
 use scenario_text::Scenario;
 use shared_book::share;
 use std::alloc::Global;
@@ -26,32 +25,30 @@ use std::thread::Threads;
 use upload_world::Uploader;
 
 // The uploads of what came to the host at a position. Memory where there is none for them.
-fn uploader(
+fn uploader<'a>(
     alloc: Global,
     scenario: &Scenario,
-    arrivals: &Arrivals,
+    arrivals: &'a PooledArrivals,
     at: usize,
-) -> Result<Uploader, Memory>
-    requires arrived { HaveArrived scenario.now (picked scenario.now) arrivals.now.inboxes }
+) -> Result<Uploader<PackedUploads<'a>>, Memory>
+    requires arrived { HavePooled scenario.now arrivals.now }
     requires fits { IsWhole scenario.now }
     requires declared { at < length scenario.now.hosts }
     ensures { IfOk result (λ u. u ≡ uploader_at scenario.now at) }
 {
     let host = &scenario.hosts()[at];
     let arrived = arrivals.arrived(at as u16);
-    let Ok(uploads) = uploads(alloc, host.name, arrived) else {
-        return Err(Memory);
-    };
-    Uploader::new(alloc, host.name, uploads)
+    let uploads = PackedUploads::new(alloc, host.name, arrivals.kept(), arrived)?;
+    Uploader::over(alloc, host.name, uploads)
 }
 
 // What the hosts send, in the order of declaration.
 fn senders<'a>(
     alloc: Global,
     scenario: &'a Scenario,
-    arrivals: &Arrivals,
+    arrivals: &'a PooledArrivals,
 ) -> Result<Vec<Sender<'a>>, Memory>
-    requires arrived { HaveArrived scenario.now (picked scenario.now) arrivals.now.inboxes }
+    requires arrived { HavePooled scenario.now arrivals.now }
     requires fits { IsWhole scenario.now }
     ensures { IfOk result (λ ss. AreSenders scenario.now (length scenario.now.hosts) ss.items) }
 {
@@ -73,9 +70,9 @@ fn senders<'a>(
 fn prepare<'a>(
     alloc: Global,
     scenario: &'a Scenario,
-    arrivals: &Arrivals,
+    arrivals: &'a PooledArrivals,
 ) -> Result<(Vec<Sender<'a>>, Seats<'a>), Memory>
-    requires arrived { HaveArrived scenario.now (picked scenario.now) arrivals.now.inboxes }
+    requires arrived { HavePooled scenario.now arrivals.now }
     requires fits { IsWhole scenario.now }
     ensures senders { IfOk result (λ r. AreSenders scenario.now (length scenario.now.hosts) r.0.items) }
     ensures calls { IfOk result (λ r. All HasCallsFor r.0.items) }
@@ -94,11 +91,11 @@ pub(crate) fn store_all<'a, D: Disk + Send, G: Gate, R: Threads + Wait + Sync>(
     alloc: Global,
     rt: &R,
     scenario: &'a Scenario,
-    arrivals: &Arrivals,
+    arrivals: &'a PooledArrivals,
     journal: Journal<D>,
     gate: &G,
 ) -> Result<(Journal<D>, Vec<Sender<'a>>), Journal<D>>
-    requires arrived { HaveArrived scenario.now (picked scenario.now) arrivals.now.inboxes }
+    requires arrived { HavePooled scenario.now arrivals.now }
     requires fits { IsWhole scenario.now }
     requires shape { journal.shape ≡ scenario.now.shape }
     requires room { journal.room ≡ ROOM }

@@ -3,7 +3,7 @@ ghost use Rattle.std.specs.Prelude.{◌≡◌, ◌++◌, ◌<◌, length, All, N
 ghost use Rattle.std.specs.List.{flat_map};
 ghost use Rattle.lg_base.specs.Causes.{Rose};
 ghost use Rattle.lg_model.specs.Carrying.{picked};
-ghost use Rattle.path_sim.specs.Arrived.{HaveArrived};
+ghost use Rattle.guardian_run.specs.Arrived.{HavePooled};
 ghost use Rattle.scenario_parts.specs.Whole.{IsWhole};
 ghost use Rattle.column_book.specs.declared.book.TheConstants.{ROOM};
 ghost use Rattle.column_book.specs.Entries.{records};
@@ -18,10 +18,11 @@ ghost use Rattle.guardian_run.specs.Telling.{status_told, text_told, CanBeTold, 
 use crate::reporting::report;
 use crate::storing::store_all;
 use book_journal::{ApplyFault, Journal};
+use host_collect::PackedUploads;
 use host_workers::Sender;
 use lg_base::{Gate, Memory};
 use lg_disk::Disk;
-use path_sim::{Arrivals, run_own};
+use path_sim::{PooledArrivals, run_pooled};
 use report_text::{disk_fault_line, put_acked_line, put_conflict_line, put_full_line, put_text};
 use scenario_text::Scenario;
 use std::alloc::Global;
@@ -43,7 +44,11 @@ pub(crate) enum Told {
 }
 
 // The line of an upload, where it is acknowledged.
-fn put_if_acked(text: &mut Vec<u8>, uploader: &Uploader, seq: u32) -> Result<(), Memory>
+fn put_if_acked(
+    text: &mut Vec<u8>,
+    uploader: &Uploader<PackedUploads<'_>>,
+    seq: u32,
+) -> Result<(), Memory>
     requires { seq < length uploader.now.uploads }
     ensures { IfOk result (λ _. text.new.items ≡ text.old.items ++ line_of uploader.now seq) }
 {
@@ -54,7 +59,7 @@ fn put_if_acked(text: &mut Vec<u8>, uploader: &Uploader, seq: u32) -> Result<(),
 }
 
 // The lines of the acknowledged uploads of a host.
-fn put_acked(text: &mut Vec<u8>, uploader: &Uploader) -> Result<(), Memory>
+fn put_acked(text: &mut Vec<u8>, uploader: &Uploader<PackedUploads<'_>>) -> Result<(), Memory>
     ensures { IfOk result (λ _. text.new.items ≡ text.old.items ++ lines_with uploader.now) }
 {
     for seq in 0..uploader.len() {
@@ -144,11 +149,11 @@ pub(crate) fn tell_arrived<D: Disk + Send, G: Gate, R: Threads + Wait + Sync>(
     alloc: Global,
     rt: &R,
     scenario: &Scenario,
-    arrivals: &Arrivals,
+    arrivals: &PooledArrivals,
     journal: Journal<D>,
     gate: &G,
 ) -> (Result<Told, Memory>, Journal<D>)
-    requires arrived { HaveArrived scenario.now (picked scenario.now) arrivals.now.inboxes }
+    requires arrived { HavePooled scenario.now arrivals.now }
     requires fits { IsWhole scenario.now }
     requires shape { journal.shape ≡ scenario.now.shape }
     requires room { journal.room ≡ ROOM }
@@ -192,7 +197,7 @@ pub(crate) fn tell<D: Disk + Send, G: Gate, R: Threads + Wait + Sync>(
         journal result.1 NoMemory no_memory_line) }
     ensures goes_on { GoesOn D.honest D.seen D.images D.moment D.since D.faults journal result.1 }
 {
-    match run_own(alloc, scenario) {
+    match run_pooled(alloc, scenario) {
         Ok(arrivals) => tell_arrived(alloc, rt, scenario, &arrivals, journal, gate),
         Err(_) => (Err(Memory), journal),
     }

@@ -9,5 +9,5 @@ abbrev pub invariant-loop-at : goal.invariant-loop-at
 invariant-loop-at l = record {
   text : l.text.items ≡ flat_map (host_lines l.scenario) (enumerate_from 0 (take l.at l.scenario.hosts));
   count : l.count ≡ length (flat_map (brought l.scenario (picked l.scenario)) (range_with_len 0 l.at));
-  few : l.count ≤ l.at * 146402730743726600;
+  few : l.count ≤ l.at * 4294967296;
 }

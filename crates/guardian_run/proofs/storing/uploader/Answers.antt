@@ -1,31 +1,44 @@
-use Rattle.std.proofs.Common.{◌<◌, List, length, arith, sym, ap, subst}
+use Rattle.std.proofs.Common.{◌≡◌, ◌<◌, ◌∙◌, ℕ, List, length, map, replicate, arith, sym, ap, subst}
+use Rattle.std.proofs.lemmas.Result.{IfOk-weaker}
 use Rattle.lg_model.specs.Carrying.{picked}
 use Rattle.lg_model.specs.Arriving.{brought}
-use Rattle.lg_model.specs.Matching.{Matched}
-use Rattle.sketchlet_wire.specs.declared.packed.Packed.{Packed}
-use Rattle.sketchlet_wire.specs.Packing.{IsPacked}
 use Rattle.lg_model.specs.declared.scenario.HostLine.{HostLine}
+use Rattle.lg_model.specs.Matching.{Matched}
+use Rattle.sketchlet_wire.specs.Packing.{IsPacked}
+use Rattle.sketchlet_wire.specs.declared.packed.Packed.{Packed}
+use Rattle.sketchlet_wire.specs.Uploads.{UploadData}
+use Rattle.uploader_core.specs.declared.state.SeqState.TheVariants as state
+use Rattle.uploader_core.specs.Uploader.{UploaderState}
+use Rattle.path_sim.specs.Pooling.{items_at}
 use Rattle.host_collect.specs.Cutting.{cut, numbered}
-use Rattle.uploader_core.specs.Uploader.{AreOwn}
-use Rattle.guardian_run.proofs.Keeping.{packed_short}
-use Rattle.guardian_run.proofs.Sent.{host_read, own_at}
+use Rattle.book_laws.specs.Legal.{uploads_at}
+use Rattle.guardian_run.proofs.Places.{CameTo, came_to, host_inside, few_came, pack}
+use Rattle.guardian_run.proofs.Sent.{host_read}
 use Rattle.guardian_run.proofs.storing.uploader.Goals as goal
 
-pub uploads-requires-clause-lens : goal.uploads-requires-clause-lens
-uploads-requires-clause-lens c =
-    let at = c.args.at in
-    let cs = brought c.args.scenario.now (picked c.args.scenario.now) at in
-    let all = c.requires.arrived.each at (omega (arith, c.requires.declared, c.requires.arrived.hosts)) in
-    packed_short c.arrived-arrived.result.now cs (subst (λ (xs : List Packed). Matched IsPacked xs cs) (sym c.arrived-arrived.ensures) all)
+pub new-requires-clause-columns : goal.new-requires-clause-columns
+new-requires-clause-columns c =
+    let w = c.args.scenario.now in
+    let a = c.args.arrivals.now in
+    pack w a c.kept.result.now c.arrived-arrived.result.now c.args.at c.requires.arrived c.kept.ensures
+    (came_to w a c.arrived-arrived.result.now c.args.at c.requires.arrived c.requires.declared c.arrived-arrived.ensures)
 
-pub new-requires : goal.new-requires
-new-requires c =
+pub new-requires-clause-count : goal.new-requires-clause-count
+new-requires-clause-count c =
+    few_came c.args.scenario.now c.args.arrivals.now c.arrived-arrived.result.now c.args.at c.requires.fits.fits.few_packets c.requires.arrived c.requires.declared c.arrived-arrived.ensures
+
+pub returns : goal.returns
+returns c =
     let w = c.args.scenario.now in
     let at = c.args.at in
-    let cs = brought w (picked w) at in
+    let a = c.args.arrivals.now in
     let host = c.index-hosts-at.result in
-    let inside : at < length c.args.arrivals.now.inboxes = omega (arith, c.requires.declared, c.requires.arrived.hosts) in
-    let all = subst (λ (xs : List Packed). Matched IsPacked xs cs) (sym c.arrived-arrived.ensures) (c.requires.arrived.each at inside) in
+    let cs = brought w (picked w) at in
+    let came = came_to w a c.arrived-arrived.result.now at c.requires.arrived c.requires.declared c.arrived-arrived.ensures in
+    let packed : Matched IsPacked (items_at c.kept.result.now c.arrived-arrived.result.now) cs =
+    subst (λ (ps : List Packed). Matched IsPacked (items_at ps c.arrived-arrived.result.now) cs) (sym c.kept.ensures) came.packed in
     let is = host_read w at c.hosts.result.now host c.hosts.ensures.value (omega (arith, c.requires.declared, ap length c.hosts.ensures.value)) c.index-hosts-at.is in
-    subst (AreOwn host.name) (sym (c.in-Ok.ensures.only cs all))
-    (subst (λ (x : HostLine). AreOwn x.name (numbered x.name (cut cs))) is (own_at w c.args.arrivals.now.inboxes at c.requires.fits c.requires.arrived c.requires.declared))
+    let uploads : c.in_ok-uploads.uploads ≡ numbered host.name (cut cs) = c.in_ok-uploads.ensures.value cs packed in
+    let same : c.in_ok-uploads.uploads ≡ uploads_at w at = uploads ∙ ap (λ (x : HostLine). numbered x.name (cut cs)) (sym is) in
+    IfOk-weaker c.over.result _ _ (λ u made.
+    made ∙ (λ i. record { host = (sym is i).name; uploads = same i; states = replicate (length (same i)) state.Idle })) c.over.ensures.value
