@@ -1,7 +1,7 @@
 -- What came to a host, by the places of its columns.
-use Rattle.std.specs.Prelude.{◌≡◌, ℕ, ◌+◌, ◌<◌, ◌≤◌, ◌^◌, List, [], All, length, map, slice_index_or}
-use Rattle.std.proofs.Common.{refl, sym, ap, ◌∙◌, subst, arith}
-use Rattle.std.proofs.lemmas.List.{length-map, get_or-map, get_or_default}
+use Rattle.std.specs.Prelude.{◌≡◌, ℕ, ◌<◌, ◌≤◌, ◌^◌, List, [], All, length, slice_index_or}
+use Rattle.std.proofs.Common.{sym, ap, ◌∙◌, subst, arith}
+use Rattle.std.proofs.lemmas.List.{length-map, get_or-map}
 use Rattle.lg_model.specs.Scenario.{Scenario, packet_count}
 use Rattle.lg_model.specs.Columns.{Column}
 use Rattle.lg_model.specs.Matching.{Matched}
@@ -11,7 +11,7 @@ use Rattle.lg_model.proofs.Pairing.{matched_length}
 use Rattle.sketchlet_wire.specs.declared.packed.Packed.{Packed}
 use Rattle.sketchlet_wire.specs.Packing.{IsPacked}
 use Rattle.path_sim.specs.Pooling.{no_item, item_at, items_at, pooled, PooledOutcome}
-use Rattle.host_collect.specs.PackedUploads.{columns_at, PackColumns}
+use Rattle.host_collect.specs.PackedUploads.{PackColumns}
 use Rattle.host_collect.proofs.PackedParts.{columns_are}
 use Rattle.guardian_run.specs.Arrived.{HavePooled}
 use Rattle.guardian_run.proofs.Keeping.{no_column, packed_is}

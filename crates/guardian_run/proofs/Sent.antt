@@ -14,7 +14,7 @@ use Rattle.scenario_parts.specs.Whole.{IsWhole}
 use Rattle.lg_model.proofs.Pairing.{matched_length}
 use Rattle.sketchlet_wire.specs.declared.packed.Packed.{Packed}
 use Rattle.sketchlet_wire.specs.Packing.{IsPacked}
-use Rattle.sketchlet_wire.specs.Uploads.{UploadData, IsUpload, upload_of}
+use Rattle.sketchlet_wire.specs.Uploads.{IsUpload, upload_of}
 use Rattle.path_sim.specs.Arrived.{HaveArrived}
 use Rattle.host_collect.specs.Cutting.{Piece, cut}
 use Rattle.host_collect.proofs.Cutting.{cut_law}
@@ -22,7 +22,7 @@ use Rattle.column_book.specs.declared.book.TheConstants.{ROOM}
 use Rattle.column_book.specs.declared.entry.Entry.{Entry}
 use Rattle.column_book.specs.Entries.{records}
 use Rattle.uploader_core.specs.declared.state.SeqState.TheVariants as state
-use Rattle.uploader_core.specs.Uploader.{UploaderState, AreOwn}
+use Rattle.uploader_core.specs.Uploader.{UploaderState}
 use Rattle.link_deliveries.specs.Waiting.{is_refused, refusals}
 use Rattle.link_deliveries.specs.Deliveries.{deliveries}
 use Rattle.lock_rule.specs.declared.view.Doing.TheVariants.{Idle}

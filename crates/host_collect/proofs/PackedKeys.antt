@@ -1,13 +1,13 @@
 -- The keys of packed columns, and whether a column can join others by them.
-use Rattle.std.specs.Prelude.{◌≡◌, ℕ, ◌<◌, ◌≤◌, List, [], ◌∷◌, ◌++◌, Bool, true, false, ◌&&◌, ◌||◌, not, nat_lt, length, map, drop, Result, Ok, Err, take, ◌-◌}
+use Rattle.std.specs.Prelude.{◌≡◌, ℕ, ◌≤◌, List, [], ◌∷◌, ◌++◌, Bool, ◌&&◌, ◌||◌, not, nat_lt, length, map, drop, Result, Ok, Err, take, ◌-◌}
 use Rattle.std.specs.List.{list_any}
-use Rattle.std.proofs.Common.{refl, sym, ap, ◌∙◌, subst, arith, length-append, append_assoc}
+use Rattle.std.proofs.Common.{refl, sym, ap, ◌∙◌, arith, append_assoc}
 use Rattle.std.proofs.lemmas.List.{drop_at, length-map, take_all, length-drop}
 use Rattle.lg_model.specs.declared.column.Key.{Key}
 use Rattle.lg_model.specs.declared.limits.TheConstants.{MOST_UPLOAD_COLUMNS}
 use Rattle.lg_model.specs.Columns.{Column}
 use Rattle.sketchlet_wire.specs.declared.packed.Packed.{Packed}
-use Rattle.sketchlet_wire.specs.Spelling.{IsColumn, spelling, marks, dims_bytes, column_key_bytes, cells_bytes}
+use Rattle.sketchlet_wire.specs.Spelling.{spelling, marks, dims_bytes, column_key_bytes, cells_bytes}
 use Rattle.sketchlet_wire.specs.Packing.{IsPacked, packed_bytes}
 use Rattle.sketchlet_wire.specs.Reading.{key_at}
 use Rattle.sketchlet_wire.specs.Uploads.{same_column_key, holds_key}

@@ -1,11 +1,11 @@
 -- The beginning and the end of a run.
-use Rattle.std.specs.Prelude.{◌≡◌, ℕ, ◌<◌, List, [], ◌++◌, length, reverse, replicate, slice_index_or, None, All}
+use Rattle.std.specs.Prelude.{◌≡◌, ℕ, ◌<◌, List, [], ◌++◌, length, reverse, replicate, slice_index_or, All}
 use Rattle.std.specs.List.{flat_map, enumerate_from}
 use Rattle.std.proofs.Common.{refl, sym, ap, ◌∙◌, subst, arith, take_all}
 use Rattle.std.proofs.lemmas.List.{length-replicate, get_or-replicate}
 use Rattle.std.proofs.lemmas.List.Elements.{All-nil, All-replicate}
 use Rattle.lg_model.specs.Scenario.{Scenario}
-use Rattle.lg_model.specs.Trace.{Packet, packets, packets_of, packets_until, meetings, meetings_in}
+use Rattle.lg_model.specs.Trace.{Packet, packets, packets_of, packets_until, meetings_in}
 use Rattle.lg_model.specs.Matching.{Matched}
 use Rattle.lg_model.specs.Carrying as model
 use Rattle.lg_model.specs.Offering.{Picks, Offering, IsPick, offering}
@@ -26,9 +26,7 @@ use Rattle.path_sim.specs.declared.running.Ran.{Ran}
 use Rattle.path_sim.specs.declared.traffic.Traffic.{Traffic}
 use Rattle.path_sim.specs.Parts.{IsBefore}
 use Rattle.path_sim.specs.Holding.{AreHeld, IsInside}
-use Rattle.path_sim.specs.Arrived.{HaveArrived}
 use Rattle.path_sim.specs.Running.{IsRunTo, IsFresh, HasRun}
-use Rattle.path_sim.proofs.Steps.{prefix_all}
 
 -- nothing has happened
 pub started : {S O C : Type 0} (picks : Picks S) (post : Ghosts O C) (w : Scenario) (ps : List S) (t : Traffic O C) → t.twins.items ≡ replicate (length w.switches) (new_twins w.shape) → IsFresh post w t.post → t.held.items ≡ [] →

@@ -1,17 +1,14 @@
 -- What came to the hosts, and what is held.
-use Rattle.std.specs.Prelude.{◌≡◌, ℕ, ◌<◌, ◌≤◌, List, [], ◌∷◌, length}
-use Rattle.std.proofs.Common.{sym, ap, ◌∙◌, subst}
+use Rattle.std.specs.Prelude.{◌≡◌, ℕ, ◌≤◌, List, [], ◌∷◌, length}
+use Rattle.std.proofs.Common.{ap, ◌∙◌}
 use Rattle.lg_model.specs.Scenario.{Scenario}
 use Rattle.lg_model.specs.Trace.{packets_until}
-use Rattle.lg_model.specs.Matching.{Matched}
 use Rattle.lg_model.specs.Carrying as model
 use Rattle.lg_model.specs.Carrying.{Adds}
 use Rattle.lg_model.specs.Arriving.{deliveries}
 use Rattle.lg_model.specs.Columns.{Column}
-use Rattle.lg_model.specs.Midway.{arrived_to, held_to, AreDelivered}
+use Rattle.lg_model.specs.Midway.{arrived_to, held_to}
 use Rattle.lg_model.proofs.Arrivals.{deliveries_stay, arrived_below, held_to_below}
-use Rattle.sketchlet_wire.specs.declared.packed.Packed.{Packed}
-use Rattle.sketchlet_wire.specs.Packing.{IsPacked}
 use Rattle.path_sim.specs.declared.inbox.Held.{Held}
 use Rattle.path_sim.specs.declared.post.Post.{Ghosts}
 use Rattle.path_sim.specs.declared.traffic.Traffic.{Traffic}

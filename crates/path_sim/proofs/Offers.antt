@@ -1,15 +1,13 @@
 -- One offer.
-use Rattle.std.specs.Prelude.{◌≡◌, ℕ, ◌+◌, ◌-◌, ◌<◌, ◌≤◌, Bool, true, false, List, [], ◌∷◌, ◌++◌, length, slice_index, slice_index_or, slice_set, Option, Some, None, nat_lt, ◌&&◌, ◌==◌, All}
-use Rattle.std.proofs.Common.{refl, sym, ap, ◌∙◌, subst, arith, rules, tests, inl, inr}
+use Rattle.std.specs.Prelude.{◌≡◌, ℕ, ◌+◌, ◌-◌, ◌<◌, Bool, true, false, List, [], ◌∷◌, ◌++◌, length, slice_index, slice_index_or, slice_set, Option, Some, None, nat_lt, ◌&&◌, ◌==◌, All}
+use Rattle.std.proofs.Common.{refl, sym, ◌∙◌, subst, arith, rules, tests, inl, inr}
 use Rattle.std.specs.List.{find}
 use Rattle.std.specs.Option.{option_map, is_some}
 use Rattle.std.proofs.lemmas.List.Elements.{All-push, All-weaker}
 use Rattle.std.proofs.lemmas.List.Folds.{list_any_none}
 use Rattle.std.proofs.lemmas.Bool.Decides.{eqb_tells}
 use Rattle.std.proofs.lemmas.Bool.{false≢true}
-use Rattle.lg_model.specs.declared.column.Bucket.{Bucket}
-use Rattle.lg_model.specs.declared.column.Dims.{Dims}
-use Rattle.lg_model.specs.Scenario.{Scenario, ended}
+use Rattle.lg_model.specs.Scenario.{Scenario}
 use Rattle.lg_model.specs.Sketch.{column_at}
 use Rattle.lg_model.specs.Trace.{Meeting, ended_before, observation}
 use Rattle.lg_model.specs.Carrying as model
@@ -20,7 +18,7 @@ use Rattle.lg_model.specs.Offering.{Picks, IsPick, IsOffered, Offering, offering
 use Rattle.lg_model.specs.TwinsState.{TwinsState, AreTwins, IsTwinsState, offer_of, with_put, with_seen}
 use Rattle.lg_model.specs.Matching.{MatchedOption}
 use Rattle.lg_model.proofs.Twinning.{twins_put, twins_see}
-use Rattle.lg_model.proofs.Cargo.{cargo_none, cargo_new, buckets_are}
+use Rattle.lg_model.proofs.Cargo.{cargo_none, buckets_are}
 use Rattle.path_sim.specs.Parts.{frozen_column, IsBefore}
 
 pub offer_is : (w : Scenario) (m : Meeting) (ms : List Meeting) (cs : List model.Carry) (ts : List TwinsState) (d : TwinsState) → AreTwins w m.step_at ms cs ts → m.switch_at < length ts →

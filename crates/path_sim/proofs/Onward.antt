@@ -1,12 +1,10 @@
 -- From one packet to the next.
 use Rattle.std.specs.Prelude.{◌≡◌, ℕ, ◌+◌, ◌≤◌, List, length, Option, Some, None, All}
-use Rattle.std.proofs.Common.{sym, ap, subst, arith, add-zero}
+use Rattle.std.proofs.Common.{sym, subst, arith, add-zero}
 use Rattle.lg_model.specs.Scenario.{Scenario}
-use Rattle.lg_model.specs.Trace.{meetings_in}
 use Rattle.lg_model.specs.Matching.{MatchedOption}
 use Rattle.lg_model.specs.Carrying as model
 use Rattle.lg_model.specs.Offering.{Picks, Offering}
-use Rattle.lg_model.specs.Midway.{packets_to}
 use Rattle.lg_model.specs.Columns.{Column}
 use Rattle.lg_model.specs.Arriving.{cargo}
 use Rattle.lg_model.proofs.Cargo.{cargo_none}

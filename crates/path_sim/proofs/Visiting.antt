@@ -5,27 +5,25 @@ use Rattle.std.proofs.lemmas.Bool.{false≢true}
 use Rattle.std.proofs.lemmas.List.{length_push}
 use Rattle.std.proofs.lemmas.List.Elements.{All-push, All-cons, All-nil}
 use Rattle.lg_model.specs.Scenario.{Scenario, ended}
-use Rattle.lg_model.specs.Trace.{Meeting, ended_before, observation}
-use Rattle.lg_model.specs.Matching.{MatchedOption}
+use Rattle.lg_model.specs.Trace.{ended_before, observation}
 use Rattle.lg_model.specs.Carrying as model
 use Rattle.lg_model.specs.Carrying.{Adds, Offer, carry_at, hops_left, is_offered, with_choice}
 use Rattle.lg_model.specs.Arriving.{column_of}
 use Rattle.lg_model.specs.Arriving.{cargo as cargo_of}
 use Rattle.lg_model.specs.Columns.{Column}
 use Rattle.lg_model.specs.Offering.{Picks, IsPick, IsLawful, Offering, offering}
-use Rattle.lg_model.specs.Runs.{Runs}
-use Rattle.lg_model.specs.TwinsState.{TwinsState, AreTwins, IsTwinsState, offer_of, with_put, with_seen}
-use Rattle.lg_model.proofs.Cargo.{cargo_none, cargo_new}
+use Rattle.lg_model.specs.TwinsState.{TwinsState, IsTwinsState, offer_of, with_put, with_seen}
+use Rattle.lg_model.proofs.Cargo.{cargo_new}
 use Rattle.lg_model.proofs.Running.{runs_more}
 use Rattle.path_sim.specs.declared.carry.Carry.{Carry}
 use Rattle.path_sim.specs.declared.meeting.Visit.{Visit}
 use Rattle.path_sim.specs.declared.post.Post.{Ghosts}
 use Rattle.path_sim.specs.declared.traffic.Traffic.{Traffic}
-use Rattle.path_sim.specs.Parts.{carry_is, meeting_is, meetings_to, frozen_column, IsBefore, some_count}
+use Rattle.path_sim.specs.Parts.{carry_is, meeting_is, meetings_to, frozen_column, IsBefore}
 use Rattle.path_sim.specs.Sending.{IsVisit}
 use Rattle.path_sim.specs.Taking.{MayTake}
-use Rattle.path_sim.specs.Running.{IsRun, IsMail, at_hops}
-use Rattle.path_sim.proofs.Offers.{offer_is, put_all, offer_yes, offer_no, offer_early, pick_none, seen_all, column_is, empty_hand, in_hand_if, before_more}
+use Rattle.path_sim.specs.Running.{IsRun, at_hops}
+use Rattle.path_sim.proofs.Offers.{offer_is, put_all, offer_yes, pick_none, seen_all, column_is, empty_hand, before_more}
 use Rattle.path_sim.proofs.Mailing.{mail_stays, mail_same}
 
 module _ {S O C : Type 0} (picks : Picks S) (post : Ghosts O C) (w : Scenario) (m : Visit) (visit : IsVisit w m) where

@@ -7,7 +7,7 @@ use Rattle.lg_model.specs.Carrying as model
 use Rattle.lg_model.specs.Carrying.{IsAllowed}
 use Rattle.lg_model.specs.Offering.{Picks, Offering, IsPick, offering, HaveChosen}
 use Rattle.lg_model.specs.Runs.{Runs}
-use Rattle.lg_model.specs.TwinsState.{TwinsState, AreTwins}
+use Rattle.lg_model.specs.TwinsState.{AreTwins}
 use Rattle.lg_model.specs.Arriving.{cargo, deliveries}
 use Rattle.lg_model.specs.Midway.{packets_to, arrived_to, held_to, AreDelivered}
 use Rattle.sketchlet_wire.specs.Packing.{IsPacked}

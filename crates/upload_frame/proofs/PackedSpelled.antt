@@ -1,8 +1,8 @@
 -- The bytes of the items at some places.
-use Rattle.std.specs.Prelude.{◌≡◌, ℕ, zero, suc, ◌+◌, ◌<◌, List, [], ◌∷◌, ◌++◌, length, map, take, slice_index_or}
+use Rattle.std.specs.Prelude.{◌≡◌, ℕ, suc, ◌+◌, ◌<◌, List, [], ◌∷◌, ◌++◌, length, take, slice_index_or}
 use Rattle.std.specs.List.{flat_map}
 use Rattle.std.specs.Int.{w16, w32, to_be_bytes}
-use Rattle.std.proofs.Common.{refl, sym, ap, ◌∙◌, subst, arith, length-append, append_assoc}
+use Rattle.std.proofs.Common.{refl, sym, ap, ◌∙◌, arith, length-append, append_assoc}
 use Rattle.std.proofs.lemmas.List.{take_more, append-nil}
 use Rattle.lg_model.specs.Columns.{Column}
 use Rattle.lg_model.specs.Matching.{Matched}
@@ -12,7 +12,7 @@ use Rattle.sketchlet_wire.specs.Spelling.{spelling}
 use Rattle.sketchlet_wire.specs.Uploads.{upload_of}
 use Rattle.upload_frame.specs.Front.{framed}
 use Rattle.upload_frame.specs.Frames.{frame_of}
-use Rattle.upload_frame.specs.Pooled.{item_at, items_at, bytes_at}
+use Rattle.upload_frame.specs.Pooled.{items_at, bytes_at}
 
 texts_append : {X : Type 0} (f : X → List ℕ) (xs : List X) (x : X) → flat_map f (xs ++ x ∷ []) ≡ flat_map f xs ++ f x
 texts_append f [] x = append-nil (f x)

@@ -1,11 +1,9 @@
-use Rattle.std.proofs.Common.{◌≡◌, ◌<◌, ◌≤◌, ◌∙◌, ℕ, List, arith, length, sym, ap, subst}
-use Rattle.std.proofs.lemmas.List.{length-map, get_or-map}
+use Rattle.std.proofs.Common.{◌≡◌, ◌<◌, arith, length}
+use Rattle.std.proofs.lemmas.List.{length-map}
 use Rattle.lg_model.specs.Carrying.{picked}
 use Rattle.lg_model.specs.Arriving.{brought}
-use Rattle.sketchlet_wire.specs.declared.packed.Packed.{Packed}
-use Rattle.sketchlet_wire.specs.Packing.{IsPacked}
-use Rattle.path_sim.specs.Pooling.{no_item, item_at, items_at}
-use Rattle.guardian_run.proofs.Keeping.{no_column, packed_is, hex_more, hex_all}
+use Rattle.path_sim.specs.Pooling.{item_at, items_at}
+use Rattle.guardian_run.proofs.Keeping.{hex_more, hex_all}
 use Rattle.guardian_run.proofs.Places.{item_is}
 use Rattle.guardian_run.proofs.capture.put_host.Goals as goal
 

@@ -1,4 +1,4 @@
-use Rattle.std.proofs.Common.{◌≡◌, ◌<◌, ◌∙◌, ℕ, List, length, map, replicate, arith, sym, ap, subst}
+use Rattle.std.proofs.Common.{◌≡◌, ◌∙◌, List, length, replicate, arith, sym, ap, subst}
 use Rattle.std.proofs.lemmas.Result.{IfOk-weaker}
 use Rattle.lg_model.specs.Carrying.{picked}
 use Rattle.lg_model.specs.Arriving.{brought}
@@ -6,13 +6,11 @@ use Rattle.lg_model.specs.declared.scenario.HostLine.{HostLine}
 use Rattle.lg_model.specs.Matching.{Matched}
 use Rattle.sketchlet_wire.specs.Packing.{IsPacked}
 use Rattle.sketchlet_wire.specs.declared.packed.Packed.{Packed}
-use Rattle.sketchlet_wire.specs.Uploads.{UploadData}
 use Rattle.uploader_core.specs.declared.state.SeqState.TheVariants as state
-use Rattle.uploader_core.specs.Uploader.{UploaderState}
 use Rattle.path_sim.specs.Pooling.{items_at}
 use Rattle.host_collect.specs.Cutting.{cut, numbered}
 use Rattle.book_laws.specs.Legal.{uploads_at}
-use Rattle.guardian_run.proofs.Places.{CameTo, came_to, host_inside, few_came, pack}
+use Rattle.guardian_run.proofs.Places.{came_to, few_came, pack}
 use Rattle.guardian_run.proofs.Sent.{host_read}
 use Rattle.guardian_run.proofs.storing.uploader.Goals as goal
 

@@ -1,11 +1,11 @@
-use Rattle.std.proofs.Common.{◌≡◌, ◌+◌, ◌<◌, ◌++◌, ◌∷◌, [], ◌∙◌, List, ℕ, Bool, true, false, length, not, slice_index_or, arith, sym, ap, subst, refl, rules}
+use Rattle.std.proofs.Common.{◌≡◌, ◌+◌, ◌<◌, ◌++◌, ◌∷◌, [], ◌∙◌, List, ℕ, true, false, length, slice_index_or, arith, sym, ap, subst, refl, rules}
 use Rattle.std.specs.Global.{Vec}
 use Rattle.lg_model.specs.declared.column.Key.{Key}
 use Rattle.lg_model.specs.Columns.{Column}
 use Rattle.sketchlet_wire.specs.Uploads.{no_column}
 use Rattle.host_collect.specs.Cutting.{can_join, numbered, cut}
 use Rattle.host_collect.specs.PackedUploads.{columns_at, pieces, AreEnds}
-use Rattle.host_collect.proofs.PackedCuts.{HasEnds, waiting, nothing, joined, begun, finished, empty, columns_len, packs}
+use Rattle.host_collect.proofs.PackedCuts.{waiting, nothing, joined, begun, finished, empty, columns_len, packs}
 use Rattle.host_collect.proofs.packed_uploads.ends_of.Goals.{then-not-joins+in_ok-push, else-not-joins, then-taken-gt0+in_ok-push-3, else-taken-gt0}
 use Rattle.host_collect.proofs.packed_uploads.ends_of.Goals as goal
 

@@ -1,4 +1,4 @@
-use Rattle.std.proofs.Common.{◌≡◌, ◌∙◌, ◌&&◌, sym, ap, Bool, true, nat_lt, length, not, refl, rules, tests}
+use Rattle.std.proofs.Common.{◌≡◌, ◌∙◌, ap, true, nat_lt, length, not, refl, rules, tests}
 use Rattle.host_collect.proofs.PackedKeys.{can_by_keys}
 use Rattle.host_collect.proofs.packed_uploads.joins.Goals as goal
 

@@ -1,4 +1,4 @@
-use Rattle.std.proofs.Common.{◌≡◌, ◌≤◌, ◌∙◌, arith, sym, ap, length, rules}
+use Rattle.std.proofs.Common.{◌≤◌, length, rules}
 use Rattle.host_collect.proofs.PackedKeys.{key_is, long, no_fault, same_key}
 use Rattle.host_collect.proofs.packed_uploads.key_at.Goals as goal
 

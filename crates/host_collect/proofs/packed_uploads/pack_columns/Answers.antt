@@ -1,14 +1,9 @@
-use Rattle.std.proofs.Common.{◌≡◌, ◌≤◌, ◌<◌, ◌+◌, ◌∙◌, ◌∷◌, [], ◌++◌, ℕ, List, All, IsTrue, true, false, length, map, take, slice_index_or, sym, ap, subst, arith, rules}
-use Rattle.std.proofs.lemmas.List.{take_more, take_all, map-append, get_or-map, length-map}
+use Rattle.std.proofs.Common.{◌≤◌, All, IsTrue, take, slice_index_or, sym, subst, rules}
+use Rattle.std.proofs.lemmas.List.{take_more, take_all}
 use Rattle.std.proofs.lemmas.List.Elements.{All-push}
 use Rattle.lg_model.specs.declared.limits.TheConstants.{MOST_SKETCHLET_BYTES}
-use Rattle.lg_model.specs.Columns.{Column}
-use Rattle.lg_model.specs.Matching.{Matched}
-use Rattle.lg_model.proofs.Pairing.{matched_push, matched_at}
 use Rattle.sketchlet_wire.specs.declared.packed.Packed.{Packed}
-use Rattle.sketchlet_wire.specs.Packing.{IsPacked}
-use Rattle.upload_frame.specs.Pooled.{no_item, item_at, items_at}
-use Rattle.host_collect.specs.PackedUploads.{column_in, columns_at, PackColumns}
+use Rattle.upload_frame.specs.Pooled.{no_item}
 use Rattle.host_collect.proofs.PackedParts.{PackFirst, all_short, pack_more, packs_there}
 use Rattle.host_collect.proofs.packed_uploads.pack_columns.Goals as goal
 

@@ -1,4 +1,4 @@
-use Rattle.std.proofs.Common.{◌≡◌, ◌+◌, ◌-◌, ◌<◌, ◌∙◌, ℕ, zero, suc, length, slice_index_or, sym, ap, arith}
+use Rattle.std.proofs.Common.{◌∙◌, sym, ap}
 use Rattle.host_collect.specs.PackedUploads.{start_of}
 use Rattle.host_collect.proofs.PackedParts.{start_first, start_before}
 use Rattle.host_collect.proofs.packed_uploads.range_of.Goals.{then-at-eq0, else-at-eq0}

@@ -1,5 +1,4 @@
 use Rattle.std.proofs.Common.{refl}
-use Rattle.std.proofs.lemmas.Result.{IfOk-weaker}
 use Rattle.path_sim.proofs.Settling.{Arrives, all_ok, settled_none, settled_lost, settled_straight, settled_twice, settled_late}
 use Rattle.path_sim.proofs.mail.settle.Goals as goal
 

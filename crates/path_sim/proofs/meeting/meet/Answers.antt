@@ -1,4 +1,4 @@
-use Rattle.std.proofs.Common.{◌≡◌, ◌<◌, ◌-◌, ◌∙◌, refl, sym, ap, arith, slice_set}
+use Rattle.std.proofs.Common.{◌≡◌, ◌∙◌, refl, sym, ap, arith, slice_set}
 use Rattle.std.proofs.lemmas.Result.{IfOk-weaker}
 use Rattle.lg_model.specs.Scenario.{ended}
 use Rattle.lg_model.specs.TwinsState.{TwinsState}

@@ -1,4 +1,4 @@
-use Rattle.std.proofs.Common.{◌≡◌, ◌<◌, ◌-◌, Some, None, refl, sym, ap, subst, arith, length, slice_index_or, slice_set}
+use Rattle.std.proofs.Common.{◌<◌, Some, None, refl, sym, ap, subst, arith, length, slice_index_or, slice_set}
 use Rattle.std.proofs.lemmas.Option.{slice_get-get_or}
 use Rattle.lg_model.specs.TwinsState.{TwinsState}
 use Rattle.path_sim.specs.Running.{IsRun, at_hops}

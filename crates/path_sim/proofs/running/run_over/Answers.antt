@@ -1,6 +1,5 @@
-use Rattle.std.proofs.Common.{refl, sym, subst, ℕ, All, []}
+use Rattle.std.proofs.Common.{refl, []}
 use Rattle.lg_model.specs.Offering.{offering}
-use Rattle.path_sim.specs.Holding.{IsInside}
 use Rattle.path_sim.proofs.Ends.{started, run_all}
 use Rattle.path_sim.proofs.running.run_over.Goals as goal
 

@@ -3,8 +3,6 @@ use Rattle.std.specs.Prelude.{slice_index}
 use Rattle.std.proofs.lemmas.List.Elements.{All-get_or}
 use Rattle.lg_model.specs.Trace.{Packet, Meeting, reach, meeting_of, meetings_of}
 use Rattle.lg_model.specs.Arriving.{packet_at}
-use Rattle.path_sim.specs.declared.meeting.Visit.{Visit}
-use Rattle.path_sim.specs.Parts.{meeting_is}
 use Rattle.path_sim.specs.Sending.{packet_is}
 use Rattle.path_sim.specs.Running.{IsRun, at_hops}
 use Rattle.path_sim.proofs.Walking.{meetings_to_end, length_meetings, hop_more}

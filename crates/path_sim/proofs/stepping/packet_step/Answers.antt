@@ -1,6 +1,5 @@
-use Rattle.std.proofs.Common.{◌≡◌, ◌+◌, ◌∙◌, refl, sym, ap, arith, ℕ, length}
+use Rattle.std.proofs.Common.{◌+◌, ◌∙◌, refl, sym, ap, arith, ℕ}
 use Rattle.std.proofs.lemmas.Result.{IfOk-weaker}
-use Rattle.lg_model.specs.Trace.{packets_until}
 use Rattle.path_sim.proofs.Steps.{number_more, number_fits, few_packets, sends, sent_step}
 use Rattle.path_sim.proofs.stepping.packet_step.Goals as goal
 

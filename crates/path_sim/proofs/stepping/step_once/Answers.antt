@@ -1,4 +1,4 @@
-use Rattle.std.proofs.Common.{◌≡◌, ◌<◌, ◌∙◌, refl, ap, subst, arith, length, map, slice_set, eq-eqb}
+use Rattle.std.proofs.Common.{◌≡◌, ◌<◌, ◌∙◌, refl, ap, arith, length, map, slice_set, eq-eqb}
 use Rattle.lg_model.specs.declared.scenario.Step.TheVariants as steps
 use Rattle.lg_model.specs.TwinsState.{TwinsState, with_end}
 use Rattle.path_sim.specs.Parts.{step_in}

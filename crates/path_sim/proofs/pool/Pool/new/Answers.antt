@@ -1,4 +1,4 @@
-use Rattle.std.proofs.Common.{◌≡◌, ◌∙◌, ◌<◌, ◌*◌, List, ℕ, length, replicate, [], sym, ap, subst, refl, arith, rules}
+use Rattle.std.proofs.Common.{◌≡◌, ◌∙◌, ◌*◌, ℕ, length, replicate, ap, arith, rules}
 use Rattle.path_sim.specs.Pooling.{no_slot}
 use Rattle.path_sim.proofs.Keeping.{started}
 use Rattle.path_sim.proofs.pool.Pool.new.Goals as goal
