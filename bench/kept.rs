@@ -14,12 +14,16 @@ const MOST_COLUMNS: usize = 16;
 const LEAD: usize = 8;
 const MOST_LENGTH: usize = 8 + 6 * MOST_ROWS;
 const PIECE: usize = 1 << 16;
+/// How many bits of an entry of the table have a place: one more than the last place needs, and some to spare.
+const PLACE_BITS: u32 = 20;
+const PLACES: u32 = (1 << PLACE_BITS) - 1;
 
 // ---- columns -------------------------------------------------------------------------------------------------------
 
 /// A key as one number: switch, epoch and index.
 pub type Key = u64;
 
+/// The key of a column.
 pub fn key_of(switch: u16, epoch: u32, index: u16) -> Key {
     u64::from(switch) << 48 | u64::from(epoch) << 16 | u64::from(index)
 }
@@ -39,11 +43,18 @@ pub fn counters(cell: &[u8]) -> (u32, u32) {
 
 /// Columns by their keys. A column is its bytes in a record: its key in 8, its cells in 6 a row.
 pub trait Map {
+    /// A map of no columns, where so many are expected.
     fn new(shape: &Shape, expected: usize) -> Self;
+    /// How many columns there are.
     fn size(&self) -> usize;
+    /// The cells of the column of a key.
     fn cells(&self, key: Key) -> Option<&[u8]>;
     /// Puts a column where there is none under its key, and tells whether it did.
     fn put(&mut self, column: &[u8]) -> bool;
+}
+
+/// A map that can be gone over.
+pub trait Sorted: Map {
     /// All keys, in order, and their cells.
     fn each(&self) -> impl Iterator<Item = (Key, &[u8])>;
 }
@@ -52,32 +63,39 @@ pub trait Map {
 pub struct Book {
     length: usize,
     bytes: Vec<u8>,
-    /// One more than the place of a column, 0 where none is; at least half of it has none.
+    /// One more than the place of a column, and above its bits some of the hash; 0 where none is. At least half of it
+    /// has none.
     table: Vec<u32>,
     /// By how many bits a hash is shifted to be a place in the table.
     shift: u32,
 }
 
 impl Book {
+    /// How many columns there are.
     fn columns(&self) -> usize {
         self.bytes.len() / self.length
     }
 
+    /// The column at a place.
     fn column(&self, place: u32) -> &[u8] {
         &self.bytes[place as usize * self.length..][..self.length]
     }
 
-    /// The place of the column of a key; else where in the table it would stand.
+    /// The place of the column of a key; else where in the table it would stand, and its bits of the hash.
     #[inline]
-    fn find(&self, key: Key) -> Result<u32, usize> {
+    fn find(&self, key: Key) -> Result<u32, (usize, u32)> {
         let hash = (key ^ key >> 32).wrapping_mul(0x9E37_79B9_7F4A_7C15);
-        let mut at = (hash >> self.shift) as usize;
+        let (mut at, high) = ((hash >> self.shift) as usize, ((hash >> 32) as u32) << PLACE_BITS);
         loop {
-            match self.table[at] {
-                0 => return Err(at),
-                next if key_at(self.column(next - 1)) == key => return Ok(next - 1),
-                _ => at = (at + 1) % self.table.len(),
+            let entry = self.table[at];
+            if entry == 0 {
+                return Err((at, high));
             }
+            let place = (entry & PLACES) - 1;
+            if entry & !PLACES == high && key_at(self.column(place)) == key {
+                return Ok(place);
+            }
+            at = (at + 1) & (self.table.len() - 1);
         }
     }
 
@@ -86,8 +104,8 @@ impl Book {
         self.table = vec![0; 2 * self.table.len()];
         self.shift -= 1;
         for place in 0..self.columns() as u32 {
-            if let Err(at) = self.find(key_at(self.column(place))) {
-                self.table[at] = place + 1;
+            if let Err((at, high)) = self.find(key_at(self.column(place))) {
+                self.table[at] = high | (place + 1);
             }
         }
     }
@@ -111,16 +129,18 @@ impl Map for Book {
 
     #[inline]
     fn put(&mut self, column: &[u8]) -> bool {
-        let Err(at) = self.find(key_at(column)) else { return false };
+        let Err((at, high)) = self.find(key_at(column)) else { return false };
         self.bytes.extend_from_slice(column);
         let columns = self.columns();
-        self.table[at] = columns as u32;
+        self.table[at] = high | columns as u32;
         if 2 * columns > self.table.len() {
             self.grow();
         }
         true
     }
+}
 
+impl Sorted for Book {
     fn each(&self) -> impl Iterator<Item = (Key, &[u8])> {
         let numbered = self.bytes.chunks_exact(self.length).zip(0..);
         let mut order: Vec<(Key, u32)> = numbered.map(|(column, place)| (key_at(column), place)).collect();
@@ -129,10 +149,10 @@ impl Map for Book {
     }
 }
 
-/// A column in a map of the standard library.
+/// The cells of a column in a map of the standard library.
 type Cells = [u8; 6 * MOST_ROWS];
 
-/// Rust's own maps, with the bytes that the cells of a column have.
+/// Rust's own maps, and how many bytes the cells of a column have.
 pub struct Ordered(BTreeMap<Key, Cells>, usize);
 pub struct Hashed(HashMap<Key, Cells>, usize);
 
@@ -165,7 +185,9 @@ impl Map for Ordered {
             btree_map::Entry::Occupied(_) => false,
         }
     }
+}
 
+impl Sorted for Ordered {
     fn each(&self) -> impl Iterator<Item = (Key, &[u8])> {
         self.0.iter().map(|(key, cells)| (*key, &cells[..self.1]))
     }
@@ -192,12 +214,6 @@ impl Map for Hashed {
             }
             hash_map::Entry::Occupied(_) => false,
         }
-    }
-
-    fn each(&self) -> impl Iterator<Item = (Key, &[u8])> {
-        let mut keys: Vec<Key> = self.0.keys().copied().collect();
-        keys.sort_unstable();
-        keys.into_iter().filter_map(|key| Some((key, self.cells(key)?)))
     }
 }
 
@@ -278,7 +294,8 @@ fn walked<M: Map>(file: &File, asked: Option<&Shape>) -> Result<Option<Walk<M>>,
     if length <= 1 || (length <= 18 && front[0] != 1) {
         return Ok(None);
     }
-    let (1, Some(shape)) = (head[0], head.last_chunk().and_then(shape_of)) else { return Err(Fault::NotAJournal) };
+    let shape = head.last_chunk().and_then(shape_of).filter(|_| head[0] == 1 && length >= 17);
+    let shape = shape.ok_or(Fault::NotAJournal)?;
     match asked {
         Some(asked) if *asked != shape => return Err(Fault::WrongShape { kept: shape, asked: *asked }),
         _ => {}

@@ -25,10 +25,12 @@ pub struct Lines {
 }
 
 impl Lines {
+    /// No line yet.
     pub fn new() -> Self {
         Lines { bytes: vec![0; PIECE], length: 0, failed: false }
     }
 
+    /// Room for so many bytes after those that are there.
     #[inline]
     fn room(&mut self, length: usize) -> &mut [u8] {
         self.length += length;
@@ -57,6 +59,7 @@ impl Lines {
         }
     }
 
+    /// Appends words, one right after the other.
     pub fn put_all(&mut self, words: &[&str]) {
         words.iter().for_each(|word| self.put(word));
     }
@@ -85,6 +88,7 @@ impl Lines {
         }
     }
 
+    /// Writes what is there.
     fn flush(&mut self) {
         self.failed = self.failed || io::stdout().write_all(&self.bytes[..self.length]).is_err();
         self.length = 0;

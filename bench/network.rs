@@ -54,10 +54,15 @@ impl Arrived {
 
 /// A network of some shape, which takes the steps of a scenario.
 pub trait Network {
+    /// Sends packets of a flow.
     fn send(&mut self, flow: &Flow, packet: &Packet);
+    /// The switch of that position ends an epoch.
     fn end(&mut self, switch: usize);
+    /// All switches end an epoch.
     fn end_all(&mut self);
+    /// The late ones arrive, the last one first.
     fn release(&mut self);
+    /// What has come to the hosts.
     fn arrived(self: Box<Self>) -> Arrived;
 }
 
@@ -89,6 +94,7 @@ struct WordStream {
 type Lane = [u32; LANES];
 
 impl WordStream {
+    /// The stream of a switch.
     fn new(seed: u64, switch: u16) -> Self {
         let mut bytes = [0; 32];
         bytes[..8].copy_from_slice(&seed.to_be_bytes());
@@ -100,6 +106,7 @@ impl WordStream {
         WordStream { key, block: 0, words: [0; 16 * LANES], used: 16 * LANES }
     }
 
+    /// The next word.
     #[inline]
     fn next(&mut self) -> u32 {
         if self.used == self.words.len() {
@@ -173,6 +180,7 @@ struct Sketch<const R: usize> {
 }
 
 impl<const R: usize> Sketch<R> {
+    /// A sketch that has counted nothing.
     fn new(width: usize) -> Self {
         Sketch { columns: vec![[[0; 2]; R]; width], counted: Vec::with_capacity(width / 8 + 1) }
     }
@@ -242,6 +250,7 @@ struct Switch<const R: usize> {
 }
 
 impl<const R: usize> Switch<R> {
+    /// A switch in its first epoch.
     fn new(name: u16, width: usize, pick: Pick) -> Self {
         let picker = match pick {
             Pick::Turns => Picker::Turns { asked: 0, next: 0 },
@@ -251,6 +260,7 @@ impl<const R: usize> Switch<R> {
         Switch { epoch: 0, picker, numbers: vec![0; width], frozen, current, name }
     }
 
+    /// Ends an epoch: the sketches are swapped, and the current one begins anew.
     fn end(&mut self) {
         std::mem::swap(&mut self.current, &mut self.frozen);
         self.current.clear();
@@ -317,6 +327,7 @@ struct Rows<const R: usize> {
 }
 
 impl<const R: usize> Rows<R> {
+    /// A network in which nothing has happened.
     fn new(shape: &Shape, pick: Pick, switches: &[u16], hosts: usize) -> Self {
         let [high, low] = (shape.width as u16).to_be_bytes();
         Rows {

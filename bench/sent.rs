@@ -108,6 +108,7 @@ fn cut(inbox: &[u32]) -> Vec<u32> {
 }
 
 impl<'a> Sender<'a> {
+    /// The uploads of a host, of which none was sent.
     fn new(host: &'a Host, shape: &'a Shape, arrived: &'a Arrived, inbox: &'a [u32]) -> Self {
         let cuts = cut(inbox);
         let acknowledged = vec![false; cuts.len() - 1];
@@ -172,9 +173,8 @@ impl<'a> Sender<'a> {
     /// A frame comes: it is read, and is due in the next turn.
     fn deliver(&mut self, frame: &[u8], heard: bool) {
         let before = self.columns.len();
-        if let Some((host, number)) = read_frame(frame, self.shape, &mut self.columns) {
-            self.due.push(Due { host, number, heard, length: self.columns.len() - before });
-        }
+        let (host, number) = read_frame(frame, self.shape, &mut self.columns).expect("a frame of this program");
+        self.due.push(Due { host, number, heard, length: self.columns.len() - before });
     }
 
     /// A turn at the book: applies what is due, up to the first one that is refused.

@@ -21,7 +21,7 @@ mod network;
 mod scenario;
 mod sent;
 
-use kept::{Book, Hashed, Journal, Key, Map, Ordered};
+use kept::{Book, Hashed, Journal, Key, Map, Ordered, Sorted};
 use lines::Lines;
 use network::Arrived;
 use scenario::{Ask, Scenario, Why};
@@ -87,6 +87,7 @@ enum Fault {
 }
 
 impl Fault {
+    /// Its exit status.
     fn status(&self) -> i32 {
         match self {
             Fault::Scenario { .. } => 2,
@@ -100,7 +101,7 @@ impl Fault {
         }
     }
 
-    /// Its line.
+    /// Its line, without the front that all have.
     fn text(&self) -> String {
         match self {
             Fault::Scenario { line, why } => format!("scenario line {line}: {why}"),
@@ -173,6 +174,7 @@ fn report(scenario: &Scenario, book: Option<&impl Map>, lines: &mut Lines) {
     put_size(book, lines);
 }
 
+/// The last line of a report and of a list.
 fn put_size(book: Option<&impl Map>, lines: &mut Lines) {
     lines.pair("columns ", book.map_or(0, Map::size) as u32);
     lines.end();
@@ -220,6 +222,7 @@ fn run(lines: &mut Lines) -> Result<(), Fault> {
     Ok(())
 }
 
+/// The sketchlets that arrive.
 fn capture(lines: &mut Lines) -> Result<(), Fault> {
     let (scenario, arrived) = scenario(true)?;
     put_arrived(&scenario, &arrived, lines);
@@ -235,9 +238,9 @@ fn ask<M: Map>(lines: &mut Lines) -> Result<(), Fault> {
 }
 
 /// All columns of the book, in the order of their keys, and how many they are.
-fn list<M: Map>(lines: &mut Lines) -> Result<(), Fault> {
+fn list<M: Sorted>(lines: &mut Lines) -> Result<(), Fault> {
     let book = kept::look::<M>(None)?;
-    for (key, cells) in book.iter().flat_map(Map::each) {
+    for (key, cells) in book.iter().flat_map(Sorted::each) {
         let (switch, epoch, index) = parts(key);
         lines.pair("column ", switch);
         lines.pair(" ", epoch);
@@ -252,6 +255,7 @@ fn list<M: Map>(lines: &mut Lines) -> Result<(), Fault> {
     Ok(())
 }
 
+/// Does what the words say, and ends with the status of that.
 fn main() {
     let words: Vec<String> = std::env::args().skip(1).collect();
     let words: Vec<&str> = words.iter().map(String::as_str).collect();
