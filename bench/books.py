@@ -176,9 +176,11 @@ class Bench(NamedTuple):
         run, without = (self.folder(size), source), (self.folder(base_size), base_source)
         found = [("guardian", [self.guardian, word])]
         if self.yardstick:
-            found.append(("Rust", [self.yardstick, word]))
-            # The ordered map is the faster one to fill here, the hash map the faster one to look up in.
+            # The standard library's maps, of which the ordered one is the faster one to fill here, and the hash map
+            # the faster one to look up in; and the table that the yardstick itself has.
+            found.append(("Rust", [self.yardstick, word, "ordered"]))
             found += [("Rust, hash", [self.yardstick, word, "hash"])] if word == "ask" else []
+            found.append(("Rust, own", [self.yardstick, word]))
         return [Side(name, Run(words, *run), Run(words, *without)) for name, words in found]
 
 

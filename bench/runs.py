@@ -1,4 +1,5 @@
-"""The run's table of bench/run: whole runs of the program on large scenarios, beside bench/yardstick.rs."""
+"""The run's table of bench/run: whole runs of the program on large scenarios, beside bench/yardstick.rs, which does the
+whole work of a run too, the book's file with it."""
 import filecmp
 import os
 import tempfile
@@ -7,6 +8,7 @@ from typing import NamedTuple, Optional
 
 from costs import KEPT, MEMORY, Cost, best, in_table, measured, peak
 
+BOOK = "guardian.book"
 HOSTS, SWITCHES, FLOWS, WIDTH = 4, 16, 250, 61
 PACKETS_AN_EPOCH, ASKS = 5000, 1000
 # The burst of a line by its hops, so that 1,000,000 packets stay below the greatest size of a text, 16,777,216 bytes.
@@ -107,22 +109,29 @@ def make(case):
 # ---- the measurements ----------------------------------------------------------------------------------------------
 
 
-def alone(program, words, source, out, place=MEMORY):
-    """The cost of a run in an empty folder of its own."""
+def alone(program, words, source, out, place=MEMORY, listed=os.devnull):
+    """The cost of a run in an empty folder of its own. Of a book that it leaves there the program then lists the
+    columns, which is not counted: the records of several hosts may stand in any order."""
     with tempfile.TemporaryDirectory(dir=place) as folder:
-        return measured([program, *words.split()], folder, source, out)
+        cost = measured([program, *words.split()], folder, source, out)
+        if listed != os.devnull and (Path(folder) / BOOK).exists():
+            measured([program, "list"], folder, os.devnull, listed)
+        return cost
 
 
 def compare(case, programs):
-    """The cost of each program, run in turn, and whether their outputs are the same."""
-    outs = [KEPT / f"{i}.output" for i in range(len(programs))]
-    place = KEPT if case.disk else MEMORY
-    costs = [alone(program, case.command, case.file(), out, place) for program, out in zip(programs, outs)]
-    return costs, all(filecmp.cmp(outs[0], out, shallow=False) for out in outs)
+    """The cost of each program, run in turn, and whether their outputs and the columns of their books are the same."""
+    outs, lists = ([KEPT / f"{i}.{kind}" for i in range(len(programs))] for kind in ("output", "list"))
+    place, costs = KEPT if case.disk else MEMORY, []
+    for program, out, listed in zip(programs, outs, lists):
+        listed.write_bytes(b"")
+        costs.append(alone(program, case.command, case.file(), out, place, listed))
+    same = [filecmp.cmp(them[0], one, shallow=False) for them in (outs, lists) for one in them]
+    return costs, all(same)
 
 
 def rounds(cases, programs, times):
-    """The least cost of each program in each case, and whether the outputs were always the same.
+    """The least cost of each program in each case, and whether outputs and books were always the same.
 
     A round goes through all sizes, so that what else the machine does falls on all of them. Small ones are in every
     round, 1,000,000 packets in every second."""
@@ -193,7 +202,7 @@ def table(most, programs, times, page):
         rows.append(Row([Measured(case, *(costs + [None])[:2], same) for case, costs, same in found]))
         page.put(rows[-1].line())
         if not rows[-1].same():
-            print(f"The outputs of {rows[-1].cases[0].file().name} or a larger one differ.")
+            print(f"The outputs or the books of {rows[-1].cases[0].file().name} or a larger one differ.")
     return rows
 
 
@@ -208,15 +217,16 @@ def demonstration(program, times):
 
 
 def shown(most, programs, times, page):
-    """Measures, and fills a page. Says whether all outputs were the same."""
+    """Measures, and fills a page. Says whether all outputs and books were the same."""
     rows = table(most, programs, times, page)
-    # What the calls of a disk cost is the machine's; the yardstick makes none.
+    # What the calls of a disk cost is the machine's, though both programs make the same ones.
     inside = [row for row in rows if not row.cases[0].case.disk]
     page.put("")
     if len(programs) > 1:
         page.put(f"- Greatest ratio: {max(it.ratio() for row in inside for it in row.cases):.2f}.")
     page.put(f"- Greatest growth: {max(row.growth() for row in inside):.2f}.")
     for it in (it for row in rows for it in row.cases if it.case.disk):
-        page.put(f"- On the disk {it.case.packets:,} packets took {it.mine.took * 1e3:.0f} ms by the clock.")
+        other = f", the yardstick {it.other.took * 1e3:.0f}" if it.other else ""
+        page.put(f"- On the disk {it.case.packets:,} packets took {it.mine.took * 1e3:.0f} ms by the clock{other}.")
     page.put(f"- {demonstration(programs[0], 2 * times)}")
     return all(row.same() for row in rows)
