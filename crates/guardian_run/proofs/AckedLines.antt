@@ -35,7 +35,8 @@ pub lines_are : (w : Scenario) (first entries : List Entry) (fault : Option Entr
     flat_map lines_of ss ≡ acked_lines w (acks_by ss)
 lines_are w first entries fault ss sent = flat_same (acked_of w (acks_by ss)) lines_of 0 w.hosts ss sent.many each
   where
-    each : (h : ℕ) (host : HostLine) (s : Sender) → h < length w.hosts → lines_of (slice_index_or ss h s) ≡ acked_of w (acks_by ss) (0 + h, slice_index_or w.hosts h host)
+    each : (h : ℕ) (host : HostLine) (s : Sender) → h < length w.hosts
+        → lines_of (slice_index_or ss h s) ≡ acked_of w (acks_by ss) (0 + h, slice_index_or w.hosts h host)
     each h host s low =
         let here : h ≡ 0 + h = omega arith in
         let states : (slice_index_or ss h s).uploader.states ≡ slice_index_or (map (λ (x : Sender). x.uploader.states) ss) h [] =

@@ -106,15 +106,50 @@ record IsOther (s : Status) : Type 0 where
 
 other : (r : Refusal) → IsProper r → IsOther (status_of r)
 other refusals.BadWords is = absurd is
-other (refusals.BadScenario n why) is = record { words = λ e. cc; read = λ e. cc; device = λ e. cc; output = λ e. elim e [ inl h ↦ cc | inr h ↦ cc ]; memory = λ e. cc }
+other (refusals.BadScenario n why) is = record {
+  words = λ e. cc;
+  read = λ e. cc;
+  device = λ e. cc;
+  output =
+      λ e. elim e [ inl h ↦ cc | inr h ↦ cc ];
+  memory = λ e. cc;
+}
 other refusals.ReadFault is = absurd is
 other refusals.DiskFault is = absurd is
 other refusals.NotAJournal is = record { words = λ e. cc; read = λ e. cc; device = λ e. cc; output = λ e. elim e [ inl h ↦ cc | inr h ↦ cc ]; memory = λ e. cc }
-other (refusals.WrongShape kept asked) is = record { words = λ e. cc; read = λ e. cc; device = λ e. cc; output = λ e. elim e [ inl h ↦ cc | inr h ↦ cc ]; memory = λ e. cc }
-other (refusals.Damaged at) is = record { words = λ e. cc; read = λ e. cc; device = λ e. cc; output = λ e. elim e [ inl h ↦ cc | inr h ↦ cc ]; memory = λ e. cc }
-other (refusals.Full held more) is = record { words = λ e. cc; read = λ e. cc; device = λ e. cc; output = λ e. elim e [ inl h ↦ cc | inr h ↦ cc ]; memory = λ e. cc }
+other (refusals.WrongShape kept asked) is = record {
+  words = λ e. cc;
+  read = λ e. cc;
+  device = λ e. cc;
+  output =
+      λ e. elim e [ inl h ↦ cc | inr h ↦ cc ];
+  memory = λ e. cc;
+}
+other (refusals.Damaged at) is = record {
+  words = λ e. cc;
+  read = λ e. cc;
+  device = λ e. cc;
+  output = λ e. elim e [ inl h ↦ cc | inr h ↦ cc ];
+  memory =
+      λ e. cc;
+}
+other (refusals.Full held more) is = record {
+  words = λ e. cc;
+  read = λ e. cc;
+  device = λ e. cc;
+  output =
+      λ e. elim e [ inl h ↦ cc | inr h ↦ cc ];
+  memory = λ e. cc;
+}
 other refusals.Memory is = absurd is
-other (refusals.Missing s e known width) is = record { words = λ e. cc; read = λ e. cc; device = λ e. cc; output = λ e. elim e [ inl h ↦ cc | inr h ↦ cc ]; memory = λ e. cc }
+other (refusals.Missing s e known width) is = record {
+  words = λ e. cc;
+  read = λ e. cc;
+  device = λ e. cc;
+  output =
+      λ e. elim e [ inl h ↦ cc | inr h ↦ cc ];
+  memory = λ e. cc;
+}
 other refusals.Blank is = record { words = λ e. cc; read = λ e. cc; device = λ e. cc; output = λ e. elim e [ inl h ↦ cc | inr h ↦ cc ]; memory = λ e. cc }
 
 -- ---- an output

@@ -26,10 +26,12 @@ pub came_to : (w : Scenario) (a : PooledOutcome) (places : List ℕ) (at : ℕ) 
 came_to w a places at has low are =
     let rows : length (pooled a.kept a.places) ≡ length a.places = length-map a.places (items_at a.kept) in
     let here : at < length a.places = omega (arith, low, rows, has.arrived.hosts) in
-    let row : slice_index_or (pooled a.kept a.places) at [] ≡ items_at a.kept (slice_index_or a.places at []) = get_or-map (items_at a.kept) a.places at [] [] here in
+    let row : slice_index_or (pooled a.kept a.places) at [] ≡ items_at a.kept (slice_index_or a.places at []) =
+    get_or-map (items_at a.kept) a.places at [] [] here in
     record {
       inside = subst (All (λ (k : ℕ). k < length a.kept)) (sym are) (has.inside at [] here);
-      packed = subst (λ (ps : List Packed). Matched IsPacked ps (brought w (picked w) at)) (row ∙ ap (items_at a.kept) (sym are)) (has.arrived.each at (omega (arith, here, rows)));
+      packed = subst (λ (ps : List Packed). Matched IsPacked ps (brought w (picked w) at)) (row ∙ ap (items_at a.kept) (sym are))
+          (has.arrived.each at (omega (arith, here, rows)));
     }
 
 pub host_inside : (w : Scenario) (a : PooledOutcome) (at : ℕ) → HavePooled w a → at < length w.hosts → at < length a.places
@@ -40,7 +42,8 @@ places_len w kept places at came =
     sym (length-map places (item_at kept)) ∙ matched_length IsPacked (items_at kept places) (brought w (picked w) at) came.packed
 
 -- So they can be cut into uploads.
-pub pack : (w : Scenario) (a : PooledOutcome) (kept : List Packed) (places : List ℕ) (at : ℕ) → HavePooled w a → kept ≡ a.kept → CameTo w a.kept places at → PackColumns kept places
+pub pack : (w : Scenario) (a : PooledOutcome) (kept : List Packed) (places : List ℕ) (at : ℕ) → HavePooled w a → kept ≡ a.kept
+    → CameTo w a.kept places at → PackColumns kept places
 pack w a kept places at has same came =
     subst (λ (ps : List Packed). PackColumns ps places) (sym same) (record {
       inside = came.inside;
@@ -49,7 +52,8 @@ pack w a kept places at has same came =
     })
 
 -- They are few.
-pub few_came : (w : Scenario) (a : PooledOutcome) (places : List ℕ) (at : ℕ) → packet_count w.steps ≤ 1000000 → HavePooled w a → at < length w.hosts → places ≡ slice_index_or a.places at [] → length places < 2 ^ 32
+pub few_came : (w : Scenario) (a : PooledOutcome) (places : List ℕ) (at : ℕ) → packet_count w.steps ≤ 1000000 → HavePooled w a → at < length w.hosts
+    → places ≡ slice_index_or a.places at [] → length places < 2 ^ 32
 few_came w a places at packets has low are =
     let rows : length (pooled a.kept a.places) ≡ length a.places = length-map a.places (items_at a.kept) in
     let here : at < length a.places = host_inside w a at has low in

@@ -72,7 +72,8 @@ few_uploads w h =
     omega (arith, few, whole, made, count)
 
 -- as many as one host of a run may have
-pub few_at : (w : Scenario) (inboxes : List (List Packed)) (h : ℕ) → IsWhole w → HaveArrived w (picked w) inboxes → h < length w.hosts → length (uploads_at w h) ≤ 2000000
+pub few_at : (w : Scenario) (inboxes : List (List Packed)) (h : ℕ) → IsWhole w → HaveArrived w (picked w) inboxes → h < length w.hosts
+    → length (uploads_at w h) ≤ 2000000
 few_at w inboxes h fits arrived low =
     let inside : h < length inboxes = omega (arith, low, arrived.hosts) in
     let few = few_uploads w h in
@@ -102,7 +103,8 @@ sender_is w n ss h s are low =
     ∙ get_or-map (sending_at w) (range_with_len 0 n) h 0 e there ∙ ap (sending_at w) (get_or-range_with_len 0 n h 0 low ∙ at)
 
 -- one sender more
-pub senders_more : (w : Scenario) (n : ℕ) (ss : List Sender) (s : Sender) → AreSenders w n ss → sending_of s ≡ sending_at w n → AreSenders w (n + 1) (ss ++ s ∷ [])
+pub senders_more : (w : Scenario) (n : ℕ) (ss : List Sender) (s : Sender) → AreSenders w n ss → sending_of s ≡ sending_at w n
+    → AreSenders w (n + 1) (ss ++ s ∷ [])
 senders_more w n ss s are is =
     map-append sending_of ss (s ∷ []) ∙ ap (λ (xs : List (UploaderState × List Letter)). xs ++ sending_of s ∷ []) are
     ∙ ap (λ (x : UploaderState × List Letter). map (sending_at w) (range_with_len 0 n) ++ x ∷ []) is
@@ -113,7 +115,8 @@ none_refused zero = refl
 none_refused (suc n) = let a = count-cons is_refused state.Idle (replicate n state.Idle) in let b = none_refused n in omega arith
 
 -- a new pass has calls enough for each
-pub calls : (w : Scenario) (inboxes : List (List Packed)) (ss : List Sender) → IsWhole w → HaveArrived w (picked w) inboxes → AreSenders w (length w.hosts) ss → All HasCallsFor ss
+pub calls : (w : Scenario) (inboxes : List (List Packed)) (ss : List Sender) → IsWhole w → HaveArrived w (picked w) inboxes
+    → AreSenders w (length w.hosts) ss → All HasCallsFor ss
 calls w inboxes ss fits arrived are = λ h s inside.
     let low : h < length w.hosts = omega (arith, inside, senders_count w (length w.hosts) ss are) in
     let is = sender_is w (length w.hosts) ss h s are low in

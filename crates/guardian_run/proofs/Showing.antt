@@ -124,12 +124,14 @@ module _ {D : Type 0} (honest : D → Type 0) (seen : D → List ℕ) (images : 
         EndsWith text sink s → ShowsFrom honest seen images moment since faults_of rounds w sink start j1.disk s
     report_shown s line text ran is (inl at, puts) =
         shown s line text ran
-        (subst (λ x. RunSays w (records j0.entries) (records j1.entries) (records (with_fault j1.entries j1.fault)) ran.acked rose_then x line) (sym at) ran.says)
+        (subst (λ x. RunSays w (records j0.entries) (records j1.entries) (records (with_fault j1.entries j1.fault)) ran.acked rose_then x line)
+        (sym at) ran.says)
         is (inl at) puts (λ e. absurd (cc (sym at ∙ e)))
     report_shown s line text ran is (inr at, puts) =
         let wrote = subst (λ x. Puts x sink text) at puts in
         shown s line text ran
-        (subst (λ x. RunSays w (records j0.entries) (records j1.entries) (records (with_fault j1.entries j1.fault)) ran.acked rose_then x line) (sym at) ran.says)
+        (subst (λ x. RunSays w (records j0.entries) (records j1.entries) (records (with_fault j1.entries j1.fault)) ran.acked rose_then x line)
+        (sym at) ran.says)
         is (inr at) puts (λ _. wrote.written.1)
 
     pub shows_ends : (s : Status) (r : Result Told Memory) → IfOk r (ShowsTold rose_then rounds w j0 j1) →
@@ -168,8 +170,10 @@ module _ {D : Type 0} (honest : D → Type 0) (seen : D → List ℕ) (images : 
     was = ends.was;
     disk_never_falls = ends.never_falls;
     complete = λ h can calm fine. elim ends.is as (λ _. (s ≡ status.Ok) ⊎ (s ≡ status.NoMemory)) [
-      | inl x ↦ completes_by honest seen images moment since faults_of (generated rounds) whole standing sink old new s ends.text (inl x) ends.write h can calm fine
-      | inr x ↦ completes_by honest seen images moment since faults_of (generated rounds) whole standing sink old new s x.line (inr x.uploaded) ends.write h can calm
+      | inl x ↦ completes_by honest seen images moment since faults_of (generated rounds) whole standing sink old new s ends.text
+          (inl x) ends.write h can calm fine
+      | inr x ↦ completes_by honest seen images moment since faults_of (generated rounds) whole standing sink old new s x.line
+          (inr x.uploaded) ends.write h can calm
           fine
     ];
   }

@@ -126,7 +126,8 @@ module _ {D : Type 0} (w : Scenario) (old new : JournalState D) (ss : List Sende
       by faults.Memory is = is
 
   -- whatever is told
-  ended : (s : Status) (text : List ℕ) → RunSays w (records old.entries) (records new.entries) (records (with_fault new.entries new.fault)) (acks_by ss) rose s text →
+  ended : (s : Status) (text : List ℕ) → RunSays w (records old.entries) (records new.entries) (records (with_fault new.entries new.fault))
+      (acks_by ss) rose s text →
       HasRun rose w old new s text
   ended s text says = record {
     acked = acks_by ss;

@@ -109,7 +109,8 @@ begun cs i ends held has low can =
     let c = column_of cs i in
     let end = last_push 0 ends i in
     let one : waiting cs (i + 1) (ends ++ i ∷ []) ≡ c ∷ [] =
-    ap (λ (n : ℕ). take (i + 1 - n) (drop n cs)) end ∙ waits_more cs i i low (omega arith) ∙ ap (λ (n : ℕ). take n (drop i cs) ++ c ∷ []) (let e : i - i ≡ 0 = omega arith in e) in
+    ap (λ (n : ℕ). take (i + 1 - n) (drop n cs)) end ∙ waits_more cs i i low (omega arith)
+    ∙ ap (λ (n : ℕ). take n (drop i cs) ++ c ∷ []) (let e : i - i ≡ 0 = omega arith in e) in
     record {
       inside = omega (arith, low);
       within = ends_push 0 ends i (length cs) has.within has.last has.near has.inside;
@@ -134,7 +135,8 @@ held_is : (host count : ℕ) (hs : List Column) → 0 < length hs → held_uploa
 held_is host count [] some = absurd (omega (arith, some))
 held_is host count (h ∷ hs) some = refl
 
-some_wait : (host taken given : ℕ) (cs : List Column) (us : List UploadData) (hs : List Column) → 0 < length cs → HasCut cs us (cutter_of host taken given hs) → 0 < length hs
+some_wait : (host taken given : ℕ) (cs : List Column) (us : List UploadData) (hs : List Column) → 0 < length cs
+    → HasCut cs us (cutter_of host taken given hs) → 0 < length hs
 some_wait host taken given cs us [] some has = absurd (omega (arith, some, ap length (has.holds refl)))
 some_wait host taken given cs us (h ∷ hs) some has = omega arith
 
@@ -144,7 +146,8 @@ finished cs i ends held has all some = (
   ends_push 0 ends i (length cs) has.within has.last has.near has.inside,
   λ host.
       let whole : take i cs ≡ cs = take_all i cs (omega (arith, all)) in
-      let wait = some_wait host i (length ends) (take i cs) (numbered host (pieces 0 ends cs)) (waiting cs i ends) (omega (arith, ap length whole, all, some)) (has.is_cut host) in
+      let wait = some_wait host i (length ends) (take i cs) (numbered host (pieces 0 ends cs)) (waiting cs i ends)
+      (omega (arith, ap length whole, all, some)) (has.is_cut host) in
       ap (numbered host) (pieces_push 0 ends i cs) ∙ numbered_more host (pieces 0 ends cs) (waiting cs i ends)
       ∙ ap (λ (n : ℕ). numbered host (pieces 0 ends cs) ++ upload_of host n (waiting cs i ends) ∷ []) (pieces_len 0 ends cs)
       ∙ ap (λ o. numbered host (pieces 0 ends cs) ++ list_of o) (sym (held_is host (length ends) (waiting cs i ends) wait))
@@ -158,7 +161,8 @@ empty cs i ends held has all none = (
   has.within,
   λ host.
       let whole : take i cs ≡ cs = take_all i cs (omega (arith, all)) in
-      let wait : waiting cs i ends ≡ [] = ap (λ (n : ℕ). take (n - last_end 0 ends) (drop (last_end 0 ends) cs)) none ∙ ap (λ (n : ℕ). take n (drop (last_end 0 ends) cs)) (let e : 0 - last_end 0 ends ≡ 0 = omega arith in e) in
+      let wait : waiting cs i ends ≡ [] = ap (λ (n : ℕ). take (n - last_end 0 ends) (drop (last_end 0 ends) cs)) none
+      ∙ ap (λ (n : ℕ). take n (drop (last_end 0 ends) cs)) (let e : 0 - last_end 0 ends ≡ 0 = omega arith in e) in
       sym (append-nil (numbered host (pieces 0 ends cs)))
       ∙ ap (λ (hs : List Column). numbered host (pieces 0 ends cs) ++ list_of (held_upload (cutter_of host i (length ends) hs))) (sym wait)
       ∙ (has.is_cut host).cut ∙ ap (λ (xs : List Column). numbered host (cut xs)) whole,

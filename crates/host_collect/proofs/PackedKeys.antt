@@ -29,7 +29,12 @@ pub key_is : {E : Type 0} (missing : E) (p : Packed) (c : Column) (bytes : List 
     → key_at missing (take (length bytes - 6) (drop 6 bytes)) ≡ Ok (c.key, cells_bytes c.cells)
 key_is missing p c bytes is same =
     ap (key_at missing) (take_all (length bytes - 6) (drop 6 bytes) (omega (arith, length-drop 6 bytes)) ∙ ap (drop 6) (same ∙ is.bytes) ∙ key_front c)
-    ∙ key_again missing c.key (cells_bytes c.cells) (record { switch = is.column.switch; epoch = is.column.epoch; index = omega (arith, is.column.index, is.column.small_width) })
+    ∙ key_again missing c.key (cells_bytes c.cells) (record {
+      switch = is.column.switch;
+      epoch = is.column.epoch;
+      index =
+          omega (arith, is.column.index, is.column.small_width);
+    })
 
 pub long : (p : Packed) (c : Column) (bytes : List ℕ) → IsPacked p c → bytes ≡ packed_bytes p → 6 ≤ length bytes
 long p c bytes is same = omega (arith, ap length (same ∙ is.bytes), spelling_length c is.column)

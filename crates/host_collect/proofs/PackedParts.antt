@@ -52,11 +52,13 @@ each_packed [] (c ∷ cs) all = absurd all
 each_packed (p ∷ ps) [] all = absurd all
 each_packed (p ∷ ps) (c ∷ cs) all = (all.0.column, each_packed ps cs all.1)
 
-pub whole : (host : ℕ) (items : List Packed) (cs : List Column) → host < 2 ^ 16 → length cs < 2 ^ 32 → Matched IsPacked items cs → AllByRecursion IsFull (numbered host (cut cs))
+pub whole : (host : ℕ) (items : List Packed) (cs : List Column) → host < 2 ^ 16 → length cs < 2 ^ 32 → Matched IsPacked items cs
+    → AllByRecursion IsFull (numbered host (cut cs))
 whole host items cs named few all =
     let is = cut_law cs in
     let count : length (cut cs) ≤ length cs = omega (arith, few_pieces (cut cs) is.uploads, ap length is.whole) in
-    whole_from host 0 (cut cs) named (omega (arith, count, few)) is.uploads (each_piece (cut cs) (subst (AllByRecursion IsColumn) (sym is.whole) (each_packed items cs all)))
+    whole_from host 0 (cut cs) named (omega (arith, count, few)) is.uploads
+    (each_piece (cut cs) (subst (AllByRecursion IsColumn) (sym is.whole) (each_packed items cs all)))
 
 -- The columns that items pack are those that they are read as.
 packs_are : (p : Packed) (c : Column) → IsPacked p c → column_in p ≡ c
@@ -91,12 +93,14 @@ piece_at from (e ∷ es) cs zero low = refl
 piece_at from (e ∷ es) cs (suc k) low = piece_at e es cs k (omega (arith, low))
 
 pub range_at : (from : ℕ) (ends : List ℕ) (len k : ℕ) → AreEnds from ends len → k < length ends
-    → (start_of from ends k ≤ slice_index_or ends k 0) × (slice_index_or ends k 0 ≤ start_of from ends k + MOST_UPLOAD_COLUMNS) × (slice_index_or ends k 0 ≤ len)
+    → (start_of from ends k ≤ slice_index_or ends k 0) × (slice_index_or ends k 0 ≤ start_of from ends k + MOST_UPLOAD_COLUMNS)
+    × (slice_index_or ends k 0 ≤ len)
 range_at from [] len k is low = absurd (omega (arith, low))
 range_at from (e ∷ es) len zero is low = (is.0, is.1, is.2)
 range_at from (e ∷ es) len (suc k) is low = range_at e es len k is.3 (omega (arith, low))
 
-upload_from : (host a : ℕ) (ps : List Piece) (k : ℕ) (u : UploadData) → slice_get (map (λ (p : ℕ × Piece). upload_of host p.0 p.1) (enumerate_from a ps)) k ≡ Some u
+upload_from : (host a : ℕ) (ps : List Piece) (k : ℕ) (u : UploadData)
+    → slice_get (map (λ (p : ℕ × Piece). upload_of host p.0 p.1) (enumerate_from a ps)) k ≡ Some u
     → u ≡ upload_of host (a + k) (slice_index_or ps k [])
 upload_from host a [] k u here = absurd (let h : (let o : Option UploadData = None in o) ≡ Some u = here in cc)
 upload_from host a (p ∷ ps) zero u here =
@@ -105,13 +109,16 @@ upload_from host a (p ∷ ps) (suc k) u here =
     upload_from host (a + 1) ps k u here ∙ ap (λ (n : ℕ). upload_of host n (slice_index_or ps k [])) (let e : a + 1 + k ≡ a + suc k = omega arith in e)
 
 -- The upload at a position has it as its number, and the columns from its start to its end.
-pub upload_is : (host : ℕ) (ends : List ℕ) (cs : List Column) (k : ℕ) (u : UploadData) → k < length ends → slice_get (numbered host (pieces 0 ends cs)) k ≡ Some u
+pub upload_is : (host : ℕ) (ends : List ℕ) (cs : List Column) (k : ℕ) (u : UploadData) → k < length ends
+    → slice_get (numbered host (pieces 0 ends cs)) k ≡ Some u
     → u ≡ upload_of host k (take (slice_index_or ends k 0 - start_of 0 ends k) (drop (start_of 0 ends k) cs))
 upload_is host ends cs k u low here =
-    upload_from host 0 (pieces 0 ends cs) k u here ∙ ap (λ (n : ℕ). upload_of host n (slice_index_or (pieces 0 ends cs) k [])) (let e : 0 + k ≡ k = omega arith in e)
+    upload_from host 0 (pieces 0 ends cs) k u here ∙ ap (λ (n : ℕ). upload_of host n (slice_index_or (pieces 0 ends cs) k []))
+    (let e : 0 + k ≡ k = omega arith in e)
     ∙ ap (upload_of host k) (piece_at 0 ends cs k low)
 
-small_from : (host a : ℕ) (ps : List Piece) (k : ℕ) → AllByRecursion IsFull (map (λ (p : ℕ × Piece). upload_of host p.0 p.1) (enumerate_from a ps)) → k < length ps → a + k < 2 ^ 32
+small_from : (host a : ℕ) (ps : List Piece) (k : ℕ) → AllByRecursion IsFull (map (λ (p : ℕ × Piece). upload_of host p.0 p.1) (enumerate_from a ps))
+    → k < length ps → a + k < 2 ^ 32
 small_from host a [] k all low = absurd (omega (arith, low))
 small_from host a (p ∷ ps) zero all low = omega (arith, all.0.seq)
 small_from host a (p ∷ ps) (suc k) all low = omega (arith, small_from host (a + 1) ps k all.1 (omega (arith, low)))
@@ -154,14 +161,16 @@ between pool places from count columns =
     let same : items_at pool (take count (drop from places)) ≡ take count (drop from (items_at pool places)) =
     sym (take-map (item_at pool) count (drop from places)) ∙ ap (take count) (sym (drop-map (item_at pool) from places)) in
     subst (λ (ps : List Packed). Matched IsPacked ps (take count (drop from (columns_at pool places)))) (sym same)
-    (matched_take count (drop from (items_at pool places)) (drop from (columns_at pool places)) (matched_drop from (items_at pool places) (columns_at pool places) columns.packed))
+    (matched_take count (drop from (items_at pool places)) (drop from (columns_at pool places))
+    (matched_drop from (items_at pool places) (columns_at pool places) columns.packed))
 
 pub uploads_len : (host : ℕ) (pool : List Packed) (places ends : List ℕ) → length (uploads_at host pool places ends) ≡ length ends
 uploads_len host pool places ends = numbered_len host (pieces 0 ends (columns_at pool places)) ∙ pieces_len 0 ends (columns_at pool places)
 
 -- ---- places that pack columns
 
-pub all_short : (i : ℕ) (pool : List Packed) → length pool ≤ i → All (λ (p : Packed). p.len ≤ MOST_SKETCHLET_BYTES) (take i pool) → All (λ (p : Packed). p.len ≤ MOST_SKETCHLET_BYTES) pool
+pub all_short : (i : ℕ) (pool : List Packed) → length pool ≤ i → All (λ (p : Packed). p.len ≤ MOST_SKETCHLET_BYTES) (take i pool)
+    → All (λ (p : Packed). p.len ≤ MOST_SKETCHLET_BYTES) pool
 all_short i pool all short = subst (All (λ (p : Packed). p.len ≤ MOST_SKETCHLET_BYTES)) (take_all i pool all) short
 
 abbrev pub PackHere : List Packed → ℕ → Type 0
@@ -170,17 +179,20 @@ PackHere pool k = (k < length pool) × IsPacked (item_at pool k) (column_in (ite
 abbrev pub PackFirst : List Packed → List ℕ → Type 0
 PackFirst pool places = All (λ (k : ℕ). k < length pool) places × Matched IsPacked (items_at pool places) (columns_at pool places)
 
-pub pack_more : (pool : List Packed) (places : List ℕ) (i d : ℕ) → i < length places → PackFirst pool (take i places) → PackHere pool (slice_index_or places i d) → PackFirst pool (take (i + 1) places)
+pub pack_more : (pool : List Packed) (places : List ℕ) (i d : ℕ) → i < length places → PackFirst pool (take i places)
+    → PackHere pool (slice_index_or places i d) → PackFirst pool (take (i + 1) places)
 pack_more pool places i d low first here =
     let k : ℕ = slice_index_or places i d in
-    let items : items_at pool (take i places ++ k ∷ []) ≡ items_at pool (take i places) ++ item_at pool k ∷ [] = map-append (item_at pool) (take i places) (k ∷ []) in
+    let items : items_at pool (take i places ++ k ∷ []) ≡ items_at pool (take i places) ++ item_at pool k ∷ [] =
+    map-append (item_at pool) (take i places) (k ∷ []) in
     let columns : columns_at pool (take i places ++ k ∷ []) ≡ columns_at pool (take i places) ++ column_in (item_at pool k) ∷ [] =
     ap (map column_in) items ∙ map-append column_in (items_at pool (take i places)) (item_at pool k ∷ []) in
     subst (PackFirst pool) (sym (take_more places i d low)) (
       All-push (λ (n : ℕ). n < length pool) (take i places) k first.0 here.0,
       subst (λ (ps : List Packed). Matched IsPacked ps (columns_at pool (take i places ++ k ∷ []))) (sym items)
           (subst (λ (cs : List Column). Matched IsPacked (items_at pool (take i places) ++ item_at pool k ∷ []) cs) (sym columns)
-          (matched_push IsPacked (items_at pool (take i places)) (columns_at pool (take i places)) (item_at pool k) (column_in (item_at pool k)) first.1 here.1)),
+          (matched_push IsPacked (items_at pool (take i places)) (columns_at pool (take i places)) (item_at pool k)
+          (column_in (item_at pool k)) first.1 here.1)),
     )
 
 pub packs_there : (pool : List Packed) (places : List ℕ) (i d : ℕ) → i < length places → PackColumns pool places → PackHere pool (slice_index_or places i d)

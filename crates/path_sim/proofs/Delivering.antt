@@ -8,7 +8,9 @@ use Rattle.lg_model.proofs.Arrivals.{deliver_one}
 use Rattle.sketchlet_wire.specs.declared.packed.Packed.{Packed}
 use Rattle.sketchlet_wire.specs.Packing.{IsPacked}
 
-pub delivered : (ds : List (ℕ × Column)) (hosts : List (List Packed)) (a : ℕ) (c : Column) (old new : List Packed) (p : Packed) → a < length hosts → old ≡ slice_index_or hosts a old →
+pub delivered : (ds : List (ℕ × Column)) (hosts : List (List Packed)) (a : ℕ) (c : Column) (old new : List Packed) (p : Packed) → a < length hosts
+    → old ≡ slice_index_or hosts a old →
     new ≡ old ++ p ∷ [] → IsPacked p c → AreDelivered IsPacked ds hosts → AreDelivered IsPacked (ds ++ (a, c) ∷ []) (slice_set hosts a new)
 delivered ds hosts a c old new p inside found pushed of all =
-    subst (λ (xs : List Packed). AreDelivered IsPacked (ds ++ (a, c) ∷ []) (slice_set hosts a xs)) (sym pushed) (deliver_one IsPacked ds hosts a c old p inside (found ∙ get_or_default hosts a old [] inside) of all)
+    subst (λ (xs : List Packed). AreDelivered IsPacked (ds ++ (a, c) ∷ []) (slice_set hosts a xs)) (sym pushed)
+    (deliver_one IsPacked ds hosts a c old p inside (found ∙ get_or_default hosts a old [] inside) of all)

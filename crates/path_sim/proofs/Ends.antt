@@ -29,18 +29,21 @@ use Rattle.path_sim.specs.Holding.{AreHeld, IsInside}
 use Rattle.path_sim.specs.Running.{IsRunTo, IsFresh, HasRun}
 
 -- nothing has happened
-pub started : {S O C : Type 0} (picks : Picks S) (post : Ghosts O C) (w : Scenario) (ps : List S) (t : Traffic O C) → t.twins.items ≡ replicate (length w.switches) (new_twins w.shape) → IsFresh post w t.post → t.held.items ≡ [] →
+pub started : {S O C : Type 0} (picks : Picks S) (post : Ghosts O C) (w : Scenario) (ps : List S) (t : Traffic O C)
+    → t.twins.items ≡ replicate (length w.switches) (new_twins w.shape) → IsFresh post w t.post → t.held.items ≡ [] →
     IsRunTo picks post w 0 0 (offering ps []) ps t
 started picks post w ps t fresh empty held_is =
     let twins = t.twins.items in
     let at_start : AreTwins w 0 [] [] twins = twins_start w twins (ap length fresh ∙ length-replicate (length w.switches) (new_twins w.shape))
-    (subst (All (λ (x : TwinsState). x ≡ new_twins w.shape)) (sym fresh) (All-replicate (λ (x : TwinsState). x ≡ new_twins w.shape) (length w.switches) (new_twins w.shape) refl)) in
+    (subst (All (λ (x : TwinsState). x ≡ new_twins w.shape)) (sym fresh)
+    (All-replicate (λ (x : TwinsState). x ≡ new_twins w.shape) (length w.switches) (new_twins w.shape) refl)) in
     let inboxes = post.inboxes t.post in
     let long : length inboxes ≡ length w.hosts = ap length empty.inboxes ∙ length-replicate (length w.hosts) [] in
     let nothing : AreDelivered IsPacked [] inboxes = record {
       each = λ h low.
           let inside : h < length w.hosts = omega (arith, low, long) in
-          let row : slice_index_or inboxes h [] ≡ [] = ap (λ (xs : List (List Packed)). slice_index_or xs h []) empty.inboxes ∙ get_or-replicate (length w.hosts) h [] [] inside in
+          let row : slice_index_or inboxes h [] ≡ [] = ap (λ (xs : List (List Packed)). slice_index_or xs h []) empty.inboxes
+          ∙ get_or-replicate (length w.hosts) h [] [] inside in
           subst (λ (xs : List Packed). Matched IsPacked xs []) (sym row) tt;
     } in
     record {
@@ -63,16 +66,20 @@ until_all : (w : Scenario) → packets_until w (length w.steps) ≡ packets w
 until_all w = ap (λ xs. flat_map (packets_of w.flows) (enumerate_from 0 xs)) (take_all (length w.steps) w.steps (omega arith))
 
 -- all steps are done
-pub all_steps : {S O C : Type 0} (picks : Picks S) (post : Ghosts O C) (w : Scenario) (n k : ℕ) (start : Offering S) (ps : List S) (t : Traffic O C) → n ≡ length w.steps → k ≡ length (packets_until w n) →
+pub all_steps : {S O C : Type 0} (picks : Picks S) (post : Ghosts O C) (w : Scenario) (n k : ℕ) (start : Offering S) (ps : List S) (t : Traffic O C)
+    → n ≡ length w.steps → k ≡ length (packets_until w n) →
     IsRunTo picks post w n k start ps t → IsRunTo picks post w (length w.steps) (length (packets w)) start ps t
 all_steps picks post w n k start ps t all number is =
     let many : k ≡ length (packets w) = number ∙ ap (λ (a : ℕ). length (packets_until w a)) all ∙ ap length (until_all w) in
     subst (λ (a : ℕ). IsRunTo picks post w a (length (packets w)) start ps t) all (subst (λ (a : ℕ). IsRunTo picks post w n a start ps t) many is)
 
 -- and what is held has arrived
-pub run_all : {S O C : Type 0} (picks : Picks S) (post : Ghosts O C) (w : Scenario) (ps qs : List S) (t : Traffic O C) (ran : Ran O) → IsRunTo picks post w (length w.steps) (length (packets w)) (offering ps []) qs t → ran.twins.items ≡ t.twins.items →
-    length (post.inboxes ran.post) ≡ length (post.inboxes t.post) → ((v : Scenario) (cs : List model.Carry) → post.notes t.post v cs → post.notes ran.post v cs) →
-    ((ds hs : List (ℕ × Column)) → AreHeld (post.stands t.post) hs t.held.items → AreDelivered IsPacked ds (post.inboxes t.post) → AreDelivered IsPacked (ds ++ reverse hs) (post.inboxes ran.post)) →
+pub run_all : {S O C : Type 0} (picks : Picks S) (post : Ghosts O C) (w : Scenario) (ps qs : List S) (t : Traffic O C) (ran : Ran O)
+    → IsRunTo picks post w (length w.steps) (length (packets w)) (offering ps []) qs t → ran.twins.items ≡ t.twins.items →
+    length (post.inboxes ran.post) ≡ length (post.inboxes t.post)
+    → ((v : Scenario) (cs : List model.Carry) → post.notes t.post v cs → post.notes ran.post v cs) →
+    ((ds hs : List (ℕ × Column)) → AreHeld (post.stands t.post) hs t.held.items → AreDelivered IsPacked ds (post.inboxes t.post)
+    → AreDelivered IsPacked (ds ++ reverse hs) (post.inboxes ran.post)) →
     HasRun picks post w ps qs ran
 run_all picks post w ps qs t ran is twins hosts noted came =
     let cs = is.carried in
@@ -80,7 +87,8 @@ run_all picks post w ps qs t ran is twins hosts noted came =
     let inboxes = post.inboxes ran.post in
     let whole_trace : packets_to w (length (packets w)) ≡ packets w = take_all (length (packets w)) (packets w) (omega arith) in
     let number : length (packets w) ≡ length (packets_until w n) = ap length (sym (until_all w)) in
-    let until : arrivals_until w n ≡ flat_map (arrivals_at w) (enumerate_from 0 w.steps) = ap (λ xs. flat_map (arrivals_at w) (enumerate_from 0 xs)) (take_all n w.steps (omega arith)) in
+    let until : arrivals_until w n ≡ flat_map (arrivals_at w) (enumerate_from 0 w.steps) =
+    ap (λ xs. flat_map (arrivals_at w) (enumerate_from 0 xs)) (take_all n w.steps (omega arith)) in
     let before : arrived_to w n (length (packets w)) ≡ arrivals_until w n = arrived_start w n (length (packets w)) (omega arith) number in
     let waits : held_to w n (length (packets w)) ≡ held w n = held_start w n (length (packets w)) (omega arith) number in
     let all : AreDelivered IsPacked (deliveries w cs (arrivals_until w n) ++ reverse (deliveries w cs (held w n))) inboxes =
@@ -89,7 +97,8 @@ run_all picks post w ps qs t ran is twins hosts noted came =
     ap (λ ds. deliveries w cs (arrivals_until w n) ++ ds) (sym (deliveries_reverse w cs (held w n)))
     ∙ sym (deliveries_append w cs (arrivals_until w n) (reverse (held w n)))
     ∙ ap (λ (ks : List ℕ). deliveries w cs (ks ++ reverse (held w n))) until in
-    let whole : AreDelivered IsPacked (deliveries w cs (arrivals w)) inboxes = subst (λ (ds : List (ℕ × Column)). AreDelivered IsPacked ds inboxes) joined all in
+    let whole : AreDelivered IsPacked (deliveries w cs (arrivals w)) inboxes =
+    subst (λ (ds : List (ℕ × Column)). AreDelivered IsPacked ds inboxes) joined all in
     let chosen = subst (λ (xs : List Packet). Runs (IsPick picks w) (meetings_in xs) (offering ps []) (offering qs cs)) whole_trace is.chosen in
     record {
       carried = cs;
@@ -98,7 +107,8 @@ run_all picks post w ps qs t ran is twins hosts noted came =
       allowed = allowed picks w ps (offering qs cs) chosen;
       arrived = record {
         hosts = hosts ∙ is.mail.hosts;
-        few = λ h low. let long = matched_length IsPacked (slice_index_or inboxes h []) (brought w cs h) (whole.each h low) in omega (arith, long, few_brought w cs h);
+        few = λ h low. let long = matched_length IsPacked (slice_index_or inboxes h []) (brought w cs h) (whole.each h low) in omega
+            (arith, long, few_brought w cs h);
         each = whole.each;
       };
       twins = rw twins (subst (λ (xs : List Packet). AreTwins w n (meetings_in xs) cs t.twins.items) whole_trace is.twins);

@@ -74,12 +74,15 @@ slots_more w pool x slots are = record {
   each = λ s j e switch index ended. kept_more pool x (slot_at slots w.shape.width s j).place (column_at w s e j) (are.each s j e switch index ended);
 }
 
-inside_slots : (w : Scenario) (slots : List Slot) (pool : List Packed) (s j : ℕ) → AreSlots w pool slots → s < length w.switches → j < w.shape.width → s * w.shape.width + j < length slots
+inside_slots : (w : Scenario) (slots : List Slot) (pool : List Packed) (s j : ℕ) → AreSlots w pool slots → s < length w.switches → j < w.shape.width
+    → s * w.shape.width + j < length slots
 inside_slots w slots pool s j are switch index =
-    let rows : (s + 1) * w.shape.width ≤ length w.switches * w.shape.width = mul-le-mul_right w.shape.width (let h : s + 1 ≤ length w.switches = omega (arith, switch) in h) in
+    let rows : (s + 1) * w.shape.width ≤ length w.switches * w.shape.width =
+    mul-le-mul_right w.shape.width (let h : s + 1 ≤ length w.switches = omega (arith, switch) in h) in
     omega (arith, are.count, rows, index)
 
-pub slots_set : (w : Scenario) (pool : List Packed) (slots : List Slot) (s j e : ℕ) (new : Slot) → AreSlots w pool slots → s < length w.switches → j < w.shape.width
+pub slots_set : (w : Scenario) (pool : List Packed) (slots : List Slot) (s j e : ℕ) (new : Slot) → AreSlots w pool slots → s < length w.switches
+    → j < w.shape.width
     → new.ended ≡ e + 1 → IsKept pool new.place (column_at w s e j) → AreSlots w pool (slice_set slots (s * w.shape.width + j) new)
 slots_set w pool slots s j e new are switch index ended kept =
     let W : ℕ = w.shape.width in
@@ -107,12 +110,14 @@ slots_set w pool slots s j e new are switch index ended kept =
 -- ---- taking a column
 
 pub found : (w : Scenario) (cs : List model.Carry) (pool : List Packed) (slots : List Slot) (rows : List (List ℕ)) (t : TwinsState) (c : Carry) (x : Slot)
-    → IsPoolOf w cs pool slots rows → MayTake w cs t c → x ≡ slot_at slots w.shape.width c.switch_at c.index → x.ended ≡ t.epoch → IsKept pool x.place (column_of w (carry_is c))
+    → IsPoolOf w cs pool slots rows → MayTake w cs t c → x ≡ slot_at slots w.shape.width c.switch_at c.index → x.ended ≡ t.epoch
+    → IsKept pool x.place (column_of w (carry_is c))
 found w cs pool slots rows t c x is may here ended =
     subst (λ (y : Slot). IsKept pool y.place (column_of w (carry_is c))) (sym here)
     (is.slots_are.each c.switch_at c.index c.epoch may.switch may.index (ap (λ (y : Slot). y.ended) (sym here) ∙ ended ∙ may.epoch))
 
-pub longer : (w : Scenario) (cs : List model.Carry) (e : model.Carry) (pool : List Packed) (slots : List Slot) (rows : List (List ℕ)) → IsPoolOf w cs pool slots rows
+pub longer : (w : Scenario) (cs : List model.Carry) (e : model.Carry) (pool : List Packed) (slots : List Slot) (rows : List (List ℕ))
+    → IsPoolOf w cs pool slots rows
     → IsPoolOf w (cs ++ e ∷ []) pool slots rows
 longer w cs e pool slots rows is = record {
   few = omega (arith, is.few, length-append cs (e ∷ []));
@@ -121,7 +126,8 @@ longer w cs e pool slots rows is = record {
   inside = is.inside;
 }
 
-pub took : (w : Scenario) (cs : List model.Carry) (pool : List Packed) (slots : List Slot) (rows : List (List ℕ)) (t : TwinsState) (c : Carry) (x : Packed) (new : Slot)
+pub took : (w : Scenario) (cs : List model.Carry) (pool : List Packed) (slots : List Slot) (rows : List (List ℕ)) (t : TwinsState) (c : Carry)
+    (x : Packed) (new : Slot)
     → IsPoolOf w cs pool slots rows → MayTake w cs t c → IsPacked x (frozen_column t c.switch c.index) → new.ended ≡ t.epoch → new.place ≡ length pool
     → IsPoolOf w (cs ++ carry_is c ∷ []) (pool ++ x ∷ []) (slice_set slots (c.switch_at * w.shape.width + c.index) new) rows
 took w cs pool slots rows t c x new is may packs ended place =
@@ -131,14 +137,16 @@ took w cs pool slots rows t c x new is may packs ended place =
     record {
       few = omega (arith, is.few, length-append cs (carry_is c ∷ []), length-append pool (x ∷ []));
       short = All-push (λ (p : Packed). p.len ≤ MOST_SKETCHLET_BYTES) pool x is.short column.short;
-      slots_are = slots_set w (pool ++ x ∷ []) slots c.switch_at c.index c.epoch new (slots_more w pool x slots is.slots_are) may.switch may.index (ended ∙ may.epoch) kept;
+      slots_are = slots_set w (pool ++ x ∷ []) slots c.switch_at c.index c.epoch new (slots_more w pool x slots is.slots_are) may.switch may.index
+          (ended ∙ may.epoch) kept;
       inside = inside_more pool x rows is.inside;
     }
 
 -- ---- arriving
 
 pub came : (pool : List Packed) (rows : List (List ℕ)) (ds : List (ℕ × Column)) (h k : ℕ) (c : Column) (d row : List ℕ) → h < length rows → IsKept pool k c
-    → row ≡ slice_index_or rows h d ++ k ∷ [] → AreDelivered IsPacked ds (pooled pool rows) → AreDelivered IsPacked (ds ++ (h, c) ∷ []) (pooled pool (slice_set rows h row))
+    → row ≡ slice_index_or rows h d ++ k ∷ [] → AreDelivered IsPacked ds (pooled pool rows)
+    → AreDelivered IsPacked (ds ++ (h, c) ∷ []) (pooled pool (slice_set rows h row))
 came pool rows ds h k c d row low kept row_is all =
     let old : List ℕ = slice_index_or rows h d in
     let size : length (pooled pool rows) ≡ length rows = length-map rows (items_at pool) in
@@ -149,16 +157,21 @@ came pool rows ds h k c d row low kept row_is all =
     map-set (items_at pool) rows h row ∙ ap (slice_set (pooled pool rows) h) (ap (items_at pool) row_is ∙ map-append (item_at pool) old (k ∷ [])) in
     subst (AreDelivered IsPacked (ds ++ (h, c) ∷ [])) (sym new) one
 
-set_each : (pool : List Packed) (rows : List (List ℕ)) (h : ℕ) (row : List ℕ) → AreInside pool rows → All (λ (k : ℕ). k < length pool) row → AreInside pool (slice_set rows h row)
+set_each : (pool : List Packed) (rows : List (List ℕ)) (h : ℕ) (row : List ℕ) → AreInside pool rows → All (λ (k : ℕ). k < length pool) row
+    → AreInside pool (slice_set rows h row)
 set_each pool [] h row inside here = inside
-set_each pool (r ∷ rows) zero row inside here = All-cons (All (λ (k : ℕ). k < length pool)) row rows here (All-tail (All (λ (k : ℕ). k < length pool)) r rows inside)
-set_each pool (r ∷ rows) (suc h) row inside here = All-cons (All (λ (k : ℕ). k < length pool)) r (slice_set rows h row) (All-head (All (λ (k : ℕ). k < length pool)) r rows inside)
+set_each pool (r ∷ rows) zero row inside here = All-cons (All (λ (k : ℕ). k < length pool)) row rows here
+    (All-tail (All (λ (k : ℕ). k < length pool)) r rows inside)
+set_each pool (r ∷ rows) (suc h) row inside here = All-cons (All (λ (k : ℕ). k < length pool)) r (slice_set rows h row)
+    (All-head (All (λ (k : ℕ). k < length pool)) r rows inside)
     (set_each pool rows h row (All-tail (All (λ (k : ℕ). k < length pool)) r rows inside) here)
 
-each_at : (pool : List Packed) (rows : List (List ℕ)) (h : ℕ) (d : List ℕ) → h < length rows → AreInside pool rows → All (λ (k : ℕ). k < length pool) (slice_index_or rows h d)
+each_at : (pool : List Packed) (rows : List (List ℕ)) (h : ℕ) (d : List ℕ) → h < length rows → AreInside pool rows
+    → All (λ (k : ℕ). k < length pool) (slice_index_or rows h d)
 each_at pool rows h d low inside = inside h d low
 
-pub arrived : (w : Scenario) (cs : List model.Carry) (pool : List Packed) (slots : List Slot) (rows : List (List ℕ)) (h k : ℕ) (c : Column) (d row : List ℕ) → h < length rows → IsKept pool k c
+pub arrived : (w : Scenario) (cs : List model.Carry) (pool : List Packed) (slots : List Slot) (rows : List (List ℕ)) (h k : ℕ) (c : Column)
+    (d row : List ℕ) → h < length rows → IsKept pool k c
     → row ≡ slice_index_or rows h d ++ k ∷ [] → IsPoolOf w cs pool slots rows → IsPoolOf w cs pool slots (slice_set rows h row)
 arrived w cs pool slots rows h k c d row low kept row_is is = record {
   few = is.few;
@@ -174,16 +187,19 @@ no_rows : (n : ℕ) (pool : List Packed) → pooled pool (replicate n []) ≡ re
 no_rows zero pool = refl
 no_rows (suc n) pool = ap (λ (rest : List (List Packed)). [] ∷ rest) (no_rows n pool)
 
-pub started : (w : Scenario) (pool : List Packed) (slots : List Slot) (rows : List (List ℕ)) (n : ℕ) → pool ≡ [] → slots ≡ replicate (w.shape.width * length w.switches) no_slot
+pub started : (w : Scenario) (pool : List Packed) (slots : List Slot) (rows : List (List ℕ)) (n : ℕ) → pool ≡ []
+    → slots ≡ replicate (w.shape.width * length w.switches) no_slot
     → rows ≡ replicate n [] → n ≡ length w.hosts → IsPoolOf w [] pool slots rows × (pooled pool rows ≡ replicate (length w.hosts) [])
 started w pool slots rows n none empty quiet hosts = (
   record {
     few = omega (arith, ap length none);
     short = subst (All (λ (p : Packed). p.len ≤ MOST_SKETCHLET_BYTES)) (sym none) (All-nil (λ (p : Packed). p.len ≤ MOST_SKETCHLET_BYTES));
     slots_are = record {
-      count = ap length empty ∙ length-replicate (w.shape.width * length w.switches) no_slot ∙ (let e : w.shape.width * length w.switches ≡ length w.switches * w.shape.width = mul_comm w.shape.width (length w.switches) in e);
+      count = ap length empty ∙ length-replicate (w.shape.width * length w.switches) no_slot
+          ∙ (let e : w.shape.width * length w.switches ≡ length w.switches * w.shape.width = mul_comm w.shape.width (length w.switches) in e);
       each = λ s j e switch index ended.
-          let rows_in : (s + 1) * w.shape.width ≤ length w.switches * w.shape.width = mul-le-mul_right w.shape.width (let h : s + 1 ≤ length w.switches = omega (arith, switch) in h) in
+          let rows_in : (s + 1) * w.shape.width ≤ length w.switches * w.shape.width =
+          mul-le-mul_right w.shape.width (let h : s + 1 ≤ length w.switches = omega (arith, switch) in h) in
           let low : s * w.shape.width + j < w.shape.width * length w.switches = omega (arith, rows_in, index, mul_comm w.shape.width (length w.switches)) in
           let slot : slot_at slots w.shape.width s j ≡ no_slot = ap (λ (xs : List Slot). slot_at xs w.shape.width s j) empty
           ∙ get_or-replicate (w.shape.width * length w.switches) (s * w.shape.width + j) no_slot no_slot low in

@@ -21,15 +21,18 @@ use Rattle.lg_model.proofs.Twinning.{twins_put, twins_see}
 use Rattle.lg_model.proofs.Cargo.{cargo_none, buckets_are}
 use Rattle.path_sim.specs.Parts.{frozen_column, IsBefore}
 
-pub offer_is : (w : Scenario) (m : Meeting) (ms : List Meeting) (cs : List model.Carry) (ts : List TwinsState) (d : TwinsState) → AreTwins w m.step_at ms cs ts → m.switch_at < length ts →
+pub offer_is : (w : Scenario) (m : Meeting) (ms : List Meeting) (cs : List model.Carry) (ts : List TwinsState) (d : TwinsState)
+    → AreTwins w m.step_at ms cs ts → m.switch_at < length ts →
     offer_of (slice_index_or ts m.switch_at d) ≡ offer_at w cs m
 offer_is w m ms cs ts d all inside =
     let is : IsTwinsState w m.step_at ms cs m.switch_at (slice_index_or ts m.switch_at d) = all.each m.switch_at d inside in
     λ i. record { width = (is.shape i).width; put = is.put i; times = is.times i }
 
 -- the packet carries the column from then on
-pub put_all : (w : Scenario) (m : Meeting) (ms : List Meeting) (cs cs' : List model.Carry) (ts ts' : List TwinsState) (d : TwinsState) (j : ℕ) → AreTwins w m.step_at ms cs ts → m.switch_at < length ts →
-    0 < ended_before w m → j < w.shape.width → cs' ≡ cs ++ carry_at w m j ∷ [] → ts' ≡ slice_set ts m.switch_at (with_put (slice_index_or ts m.switch_at d) j) → AreTwins w m.step_at ms cs' ts'
+pub put_all : (w : Scenario) (m : Meeting) (ms : List Meeting) (cs cs' : List model.Carry) (ts ts' : List TwinsState) (d : TwinsState) (j : ℕ)
+    → AreTwins w m.step_at ms cs ts → m.switch_at < length ts →
+    0 < ended_before w m → j < w.shape.width → cs' ≡ cs ++ carry_at w m j ∷ []
+    → ts' ≡ slice_set ts m.switch_at (with_put (slice_index_or ts m.switch_at d) j) → AreTwins w m.step_at ms cs' ts'
 put_all w m ms cs cs' ts ts' d j all inside some low pushed put =
     let back : (ended_before w m - 1) + 1 ≡ ended_before w m = omega arith in
     rw (pushed, put) (twins_put w m.step_at ms cs ts (carry_at w m j) d all inside back low)
@@ -48,11 +51,13 @@ offer_no w m cs some = rw some (and_false (nat_lt 0 (ended_before w m)))
 pub offer_early : (w : Scenario) (m : Meeting) (cs : List model.Carry) → ended_before w m ≡ 0 → is_offered w cs m ≡ false
 offer_early w m cs none = rw none refl
 
-pub pick_none : {S : Type 0} (picks : Picks S) (w : Scenario) (m : Meeting) (ps : List S) (cs : List model.Carry) → is_offered w cs m ≡ false → IsPick picks w m (offering ps cs) (offering ps cs)
+pub pick_none : {S : Type 0} (picks : Picks S) (w : Scenario) (m : Meeting) (ps : List S) (cs : List model.Carry) → is_offered w cs m ≡ false
+    → IsPick picks w m (offering ps cs) (offering ps cs)
 pick_none picks w m ps cs no_offer = record { offers = λ yes_offer. absurd (false≢true (sym no_offer ∙ yes_offer)); passes = λ q. refl }
 
 -- the twins after the count
-pub seen_all : (w : Scenario) (m : Meeting) (ms ms' : List Meeting) (cs : List model.Carry) (ts ts' : List TwinsState) (d : TwinsState) → AreTwins w m.step_at ms cs ts → m.switch_at < length ts →
+pub seen_all : (w : Scenario) (m : Meeting) (ms ms' : List Meeting) (cs : List model.Carry) (ts ts' : List TwinsState) (d : TwinsState)
+    → AreTwins w m.step_at ms cs ts → m.switch_at < length ts →
     ms' ≡ ms ++ m ∷ [] → ts' ≡ slice_set ts m.switch_at (with_seen (slice_index_or ts m.switch_at d) (observation m)) → AreTwins w m.step_at ms' cs ts'
 seen_all w m ms ms' cs ts ts' d all inside more counted = rw (more, counted) (twins_see w m.step_at ms cs ts m d all refl inside)
 
@@ -104,26 +109,30 @@ some_found n (c ∷ cs) h =
       | inr other ↦ let rest = some_found n cs (rw other.0 at h) in (rest.0, rw other.0 rest.1)
     ]
 
-pub in_hand : {C : Type 0} (stands : C → Column → Type 0) (w : Scenario) (cs : List model.Carry) (n : ℕ) (p : C) → MatchedOption stands (Some p) (cargo w cs n) → model.carries cs n ≡ true
+pub in_hand : {C : Type 0} (stands : C → Column → Type 0) (w : Scenario) (cs : List model.Carry) (n : ℕ) (p : C)
+    → MatchedOption stands (Some p) (cargo w cs n) → model.carries cs n ≡ true
 in_hand stands w cs n p h =
     (elim (model.carries cs n) as (λ (b : Bool). model.carries cs n ≡ b → b ≡ true) [
       | true ↦ λ q. refl
       | false ↦ λ q. absurd (subst (MatchedOption stands (Some p)) (cargo_none w cs n q) h)
     ]) refl
 
-pub empty_hand : {C : Type 0} (stands : C → Column → Type 0) (w : Scenario) (cs : List model.Carry) (n : ℕ) → MatchedOption stands None (cargo w cs n) → model.carries cs n ≡ false
+pub empty_hand : {C : Type 0} (stands : C → Column → Type 0) (w : Scenario) (cs : List model.Carry) (n : ℕ) → MatchedOption stands None (cargo w cs n)
+    → model.carries cs n ≡ false
 empty_hand stands w cs n h =
     (elim (model.carries cs n) as (λ (b : Bool). model.carries cs n ≡ b → b ≡ false) [
       | true ↦ λ q. absurd (let c = some_found n cs q in subst (λ (o : Option model.Carry). MatchedOption stands None (option_map (column_of w) o)) c.1 h)
       | false ↦ λ q. refl
     ]) refl
 
-pub in_hand_if : {C : Type 0} (stands : C → Column → Type 0) (w : Scenario) (cs : List model.Carry) (n : ℕ) (p : Option C) → is_some p ≡ true → MatchedOption stands p (cargo w cs n) → model.carries cs n ≡ true
+pub in_hand_if : {C : Type 0} (stands : C → Column → Type 0) (w : Scenario) (cs : List model.Carry) (n : ℕ) (p : Option C) → is_some p ≡ true
+    → MatchedOption stands p (cargo w cs n) → model.carries cs n ≡ true
 in_hand_if stands w cs n None some h = absurd (false≢true some)
 in_hand_if stands w cs n (Some p) some h = in_hand stands w cs n p h
 
 -- whatever stood for a column still does
-pub cargo_stays : {C : Type 0} (stands stands' : C → Column → Type 0) (p : Option C) (o : Option Column) → ((c : C) (column : Column) → stands c column → stands' c column) →
+pub cargo_stays : {C : Type 0} (stands stands' : C → Column → Type 0) (p : Option C) (o : Option Column)
+    → ((c : C) (column : Column) → stands c column → stands' c column) →
     MatchedOption stands p o → MatchedOption stands' p o
 cargo_stays stands stands' None None stays h = tt
 cargo_stays stands stands' None (Some c) stays h = absurd h

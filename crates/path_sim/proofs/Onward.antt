@@ -23,11 +23,13 @@ few_next k n None h = omega (arith, h)
 few_next k n (Some p) h = h
 
 -- a packet that is not sent yet carries nothing
-pub nothing_yet : {C : Type 0} (stands : C → Column → Type 0) (w : Scenario) (cs : List model.Carry) (k : ℕ) → All (IsBefore k) cs → MatchedOption stands None (cargo w cs k)
+pub nothing_yet : {C : Type 0} (stands : C → Column → Type 0) (w : Scenario) (cs : List model.Carry) (k : ℕ) → All (IsBefore k) cs
+    → MatchedOption stands None (cargo w cs k)
 nothing_yet stands w cs k before = subst (MatchedOption stands None) (sym (cargo_none w cs k (none_carried k cs before))) tt
 
 -- the packet of number k has gone its way, and has settled
-pub next_packet : {S O C : Type 0} (picks : Picks S) (post : Ghosts O C) (w : Scenario) (n k : ℕ) (t t' : Traffic O C) (hand : Option C) (start : Offering S) (ps : List S) → t'.twins ≡ t.twins →
+pub next_packet : {S O C : Type 0} (picks : Picks S) (post : Ghosts O C) (w : Scenario) (n k : ℕ) (t t' : Traffic O C) (hand : Option C)
+    (start : Offering S) (ps : List S) → t'.twins ≡ t.twins →
     (is : IsRun picks post w (after_packet w n k) start ps t hand) → IsMail post w n (k + 1) is.carried t' → IsRunTo picks post w n (k + 1) start ps t'
 next_packet picks post w n k t t' hand start ps twins is mail =
     let before = before_next k is.carried hand is.before in

@@ -33,7 +33,8 @@ short_packets : (w : Scenario) → IsScenario w → All (λ (p : Packet). length
 short_packets w is = all_made (λ (p : Packet). length p.flow.path ≤ 16) (packets_of w.flows) 0 w.steps (λ k step low. each k step)
   where
     each : (k : ℕ) (step : Step) → All (λ (p : Packet). length p.flow.path ≤ 16) (packets_of w.flows (k, step))
-    each k (steps.Packet at size delays burst fate) = All-replicate (λ (p : Packet). length p.flow.path ≤ 16) burst (packet_of w.flows k at size delays fate) (short_flow w at is)
+    each k (steps.Packet at size delays burst fate) = All-replicate (λ (p : Packet). length p.flow.path ≤ 16) burst
+        (packet_of w.flows k at size delays fate) (short_flow w at is)
     each k (steps.End s) = All-nil (λ (p : Packet). length p.flow.path ≤ 16)
     each k steps.EndAll = All-nil (λ (p : Packet). length p.flow.path ≤ 16)
     each k steps.Release = All-nil (λ (p : Packet). length p.flow.path ≤ 16)
@@ -41,17 +42,22 @@ short_packets w is = all_made (λ (p : Packet). length p.flow.path ≤ 16) (pack
 pub meetings_fit : (w : Scenario) → IsScenario w → length (meetings w) < 2 ^ 64
 meetings_fit w is = omega (arith, few_meetings 0 (packets w) (short_packets w is), length_packets w, is.few_packets)
 
-unoffered : (w : Scenario) (ps : List AnyPicker) → AreFresh w ps → (s : ℕ) (p : AnyPicker) → slice_get ps s ≡ Some p → p ≡ after_offers w.pick (slice_index w.switches s) 0
+unoffered : (w : Scenario) (ps : List AnyPicker) → AreFresh w ps → (s : ℕ) (p : AnyPicker) → slice_get ps s ≡ Some p
+    → p ≡ after_offers w.pick (slice_index w.switches s) 0
 unoffered w ps fresh_are s p is =
     let inside : s < length ps = slice_get_within ps s p is in
     let low : s < length w.switches = omega (arith, ap length fresh_are, length-map w.switches (fresh w.pick)) in
     let at : slice_index_or ps s p ≡ p = get_or_from_slice_get ps s p p is in
-    sym at ∙ ap (λ (xs : List AnyPicker). slice_index_or xs s p) fresh_are ∙ get_or-map (fresh w.pick) w.switches s 0 p low ∙ fresh_is_unoffered w.pick (slice_index w.switches s)
+    sym at ∙ ap (λ (xs : List AnyPicker). slice_index_or xs s p) fresh_are ∙ get_or-map (fresh w.pick) w.switches s 0 p low
+    ∙ fresh_is_unoffered w.pick (slice_index w.switches s)
 
-pub own_picked : (w : Scenario) (ps : List AnyPicker) (b : Offering AnyPicker) → IsScenario w → AreFresh w ps → Runs (IsPick AnyPicks w) (meetings w) (offering ps []) b → b.carried ≡ picked w
-own_picked w ps b is fresh_are run = picked_by AnyPicks w (λ s offers. after_offers w.pick (slice_index w.switches s) offers) ps b (any_follows w) (meetings_fit w is) (unoffered w ps fresh_are) run
+pub own_picked : (w : Scenario) (ps : List AnyPicker) (b : Offering AnyPicker) → IsScenario w → AreFresh w ps
+    → Runs (IsPick AnyPicks w) (meetings w) (offering ps []) b → b.carried ≡ picked w
+own_picked w ps b is fresh_are run = picked_by AnyPicks w (λ s offers. after_offers w.pick (slice_index w.switches s) offers) ps b (any_follows w)
+    (meetings_fit w is) (unoffered w ps fresh_are) run
 
 -- what holds of the carried list of an outcome holds of the list that it is
-pub with_picked : {X E Y : Type 0} (r : Result X E) (f : X → Y) (y : Y) (P : X → Y → Type 0) → IfOk r (λ x. f x ≡ y) → IfOk r (λ x. P x (f x)) → IfOk r (λ x. P x y)
+pub with_picked : {X E Y : Type 0} (r : Result X E) (f : X → Y) (y : Y) (P : X → Y → Type 0) → IfOk r (λ x. f x ≡ y) → IfOk r (λ x. P x (f x))
+    → IfOk r (λ x. P x y)
 with_picked (Ok x) f y P same h = subst (P x) same h
 with_picked (Err e) f y P same h = tt

@@ -36,29 +36,34 @@ pub prefix_at : (w : Scenario) (n number : ℕ) → n ≤ length w.steps → num
 prefix_at w n number h same = ap (packets_to w) same ∙ prefix_is w n h
 
 -- how many packets are sent after the step
-pub number_more : (w : Scenario) (n f size : ℕ) (delays : List ℕ) (count : ℕ) (fate : Fate) → n < length w.steps → step_in w n ≡ steps.Packet f size delays count fate →
+pub number_more : (w : Scenario) (n f size : ℕ) (delays : List ℕ) (count : ℕ) (fate : Fate) → n < length w.steps
+    → step_in w n ≡ steps.Packet f size delays count fate →
     length (packets_until w (n + 1)) ≡ length (packets_until w n) + count
 number_more w n f size delays count fate h step =
     let p = packet_of w.flows n f size delays fate in
     let mine : packets_of w.flows (n, step_in w n) ≡ replicate count p = rw step refl in
-    ap length (packets_more w n h ∙ ap (λ ps. packets_until w n ++ ps) mine) ∙ length-append (packets_until w n) (replicate count p) ∙ ap (λ k. length (packets_until w n) + k) (length-replicate count p)
+    ap length (packets_more w n h ∙ ap (λ ps. packets_until w n ++ ps) mine) ∙ length-append (packets_until w n) (replicate count p)
+    ∙ ap (λ k. length (packets_until w n) + k) (length-replicate count p)
 
 -- each of them
-pub packet_is_at : (w : Scenario) (n f size : ℕ) (delays : List ℕ) (count : ℕ) (fate : Fate) (b : ℕ) → n < length w.steps → step_in w n ≡ steps.Packet f size delays count fate → b < count →
+pub packet_is_at : (w : Scenario) (n f size : ℕ) (delays : List ℕ) (count : ℕ) (fate : Fate) (b : ℕ) → n < length w.steps
+    → step_in w n ≡ steps.Packet f size delays count fate → b < count →
     packet_at w (length (packets_until w n) + b) ≡ packet_of w.flows n f size delays fate
 packet_is_at w n f size delays count fate b h step low =
     let p = packet_of w.flows n f size delays fate in
     let mine : packets_of w.flows (n, step_in w n) ≡ replicate count p = rw step refl in
     let all : packets w ≡ (packets_until w n ++ replicate count p) ++ packets_from w (n + 1) =
     packets_split w (n + 1) (omega arith) ∙ ap (λ ps. ps ++ packets_from w (n + 1)) (packets_more w n h ∙ ap (λ ps. packets_until w n ++ ps) mine) in
-    let inside : length (packets_until w n) + b < length (packets_until w n ++ replicate count p) = omega (arith, length-append (packets_until w n) (replicate count p), length-replicate count p) in
+    let inside : length (packets_until w n) + b < length (packets_until w n ++ replicate count p) =
+    omega (arith, length-append (packets_until w n) (replicate count p), length-replicate count p) in
     ap (λ ps. slice_index_or ps (length (packets_until w n) + b) no_packet) all
     ∙ get_or_append_left (packets_until w n ++ replicate count p) (packets_from w (n + 1)) no_packet (length (packets_until w n) + b) inside
     ∙ get_or-append-add (packets_until w n) (replicate count p) b no_packet ∙ get_or-replicate count b p no_packet low
 
 -- what the scenario says of the step
 pub step_fits : (w : Scenario) (n : ℕ) (step : Step) → IsScenario w → n < length w.steps → step_in w n ≡ step → IsStep (length w.switches) w.flows step
-step_fits w n step is h same = subst (IsStep (length w.switches) w.flows) same (All-get_or (IsStep (length w.switches) w.flows) w.steps n steps.Release h is.steps)
+step_fits w n step is h same = subst (IsStep (length w.switches) w.flows) same
+    (All-get_or (IsStep (length w.switches) w.flows) w.steps n steps.Release h is.steps)
 
 pub flow_fits : (w : Scenario) (at : ℕ) → IsScenario w → at < length w.flows → IsFlow (length w.hosts) (length w.switches) (flow_at w.flows at)
 flow_fits w at is h = All-get_or (IsFlow (length w.hosts) (length w.switches)) w.flows at no_flow h is.flows
@@ -91,11 +96,13 @@ ended_fits w n s is h inside ends =
 pub step_known : (w : Scenario) (n : ℕ) (xs : List Step) (x : Step) → xs ≡ w.steps → n < length w.steps → x ≡ slice_index_or xs n x → step_in w n ≡ x
 step_known w n xs x same h is = get_or_default w.steps n steps.Release x h ∙ ap (λ (ys : List Step). slice_index_or ys n x) (sym same) ∙ sym is
 
-pub quiet_number : (w : Scenario) (n k : ℕ) → n < length w.steps → k ≡ length (packets_until w n) → packets_of w.flows (n, step_in w n) ≡ [] → k ≡ length (packets_until w (n + 1))
+pub quiet_number : (w : Scenario) (n k : ℕ) → n < length w.steps → k ≡ length (packets_until w n) → packets_of w.flows (n, step_in w n) ≡ []
+    → k ≡ length (packets_until w (n + 1))
 quiet_number w n k h number quiet = number ∙ sym (ap length (quiet_more w n h quiet))
 
 -- the packets of a step can be sent
-pub sends : (w : Scenario) (k : ℕ) (s : Sent) → IsScenario w → IsPacketStep w s → k ≡ length (packets_until w s.step_at) → (b : ℕ) → b < s.burst → IsSending w (k + b) s
+pub sends : (w : Scenario) (k : ℕ) (s : Sent) → IsScenario w → IsPacketStep w s → k ≡ length (packets_until w s.step_at) → (b : ℕ) → b < s.burst
+    → IsSending w (k + b) s
 sends w k s is step number b low =
     let n = s.step_at in
     let fits = step_fits w n (steps.Packet step.flow_at s.size s.delays.now s.burst s.fate) is step.inside step.step in
@@ -121,7 +128,8 @@ sends w k s is step number b low =
     }
 
 -- a step that releases nothing leaves what came and what is held
-pub next_mail : {O C : Type 0} (post : Ghosts O C) (w : Scenario) (n k : ℕ) (cs : List model.Carry) (t t' : Traffic O C) → n < length w.steps → k ≡ length (packets_until w (n + 1)) → is_release (step_in w n) ≡ false →
+pub next_mail : {O C : Type 0} (post : Ghosts O C) (w : Scenario) (n k : ℕ) (cs : List model.Carry) (t t' : Traffic O C) → n < length w.steps
+    → k ≡ length (packets_until w (n + 1)) → is_release (step_in w n) ≡ false →
     t'.post ≡ t.post → t'.held.items ≡ t.held.items → IsMail post w n k cs t → IsMail post w (n + 1) k cs t'
 next_mail post w n k cs t t' h number no_release post_is held_is is =
     let came : arrived_to w n k ≡ arrived_to w (n + 1) k = arrived_end w n k h number no_release ∙ sym (arrived_start w (n + 1) k (omega arith) number) in
@@ -135,8 +143,10 @@ next_mail post w n k cs t t' h number no_release post_is held_is is =
     }
 
 module _ {S O C : Type 0} (picks : Picks S) (post : Ghosts O C) (w : Scenario) (n k : ℕ) (h : n < length w.steps) where
-  stepped : (t t' : Traffic O C) (start : Offering S) (ps : List S) → k ≡ length (packets_until w (n + 1)) → is_release (step_in w n) ≡ false → t'.post ≡ t.post → t'.held.items ≡ t.held.items →
-      (is : IsRunTo picks post w n k start ps t) → AreTwins w (n + 1) (meetings_in (packets_to w k)) is.carried t'.twins.items → IsRunTo picks post w (n + 1) k start ps t'
+  stepped : (t t' : Traffic O C) (start : Offering S) (ps : List S) → k ≡ length (packets_until w (n + 1)) → is_release (step_in w n) ≡ false
+      → t'.post ≡ t.post → t'.held.items ≡ t.held.items →
+      (is : IsRunTo picks post w n k start ps t) → AreTwins w (n + 1) (meetings_in (packets_to w k)) is.carried t'.twins.items
+      → IsRunTo picks post w (n + 1) k start ps t'
   stepped t t' start ps number no_release post_is held_is is twins = record {
     carried = is.carried;
     chosen = is.chosen;
@@ -148,28 +158,35 @@ module _ {S O C : Type 0} (picks : Picks S) (post : Ghosts O C) (w : Scenario) (
   }
 
   -- a step that sent packets
-  pub sent_step : (s : Sent) (t : Traffic O C) (start : Offering S) (ps : List S) → IsPacketStep w s → s.step_at ≡ n → k ≡ length (packets_until w (n + 1)) → IsRunTo picks post w n k start ps t → IsRunTo picks post w (n + 1) k start ps t
+  pub sent_step : (s : Sent) (t : Traffic O C) (start : Offering S) (ps : List S) → IsPacketStep w s → s.step_at ≡ n
+      → k ≡ length (packets_until w (n + 1)) → IsRunTo picks post w n k start ps t → IsRunTo picks post w (n + 1) k start ps t
   sent_step s t start ps step here number is =
       let known : step_in w n ≡ steps.Packet step.flow_at s.size s.delays.now s.burst s.fate = ap (step_in w) (sym here) ∙ step.step in
       let keeps : (a : ℕ) → is_end_of a (step_in w n) ≡ false = λ a. rw known refl in
       stepped t t start ps number (rw known refl) refl refl is (twins_stay w n (meetings_in (packets_to w k)) is.carried t.twins.items h keeps is.twins)
 
   -- the epoch that is to end is not the last that a switch can have
-  pub epoch_fits : (t : Traffic O C) (s : ℕ) (ts : List TwinsState) (d : TwinsState) (start : Offering S) (ps : List S) → IsScenario w → ts ≡ t.twins.items → s < length ts → is_end_of s (step_in w n) ≡ true →
+  pub epoch_fits : (t : Traffic O C) (s : ℕ) (ts : List TwinsState) (d : TwinsState) (start : Offering S) (ps : List S) → IsScenario w
+      → ts ≡ t.twins.items → s < length ts → is_end_of s (step_in w n) ≡ true →
       IsRunTo picks post w n k start ps t → (slice_index_or ts s d).epoch < 65535
   epoch_fits t s ts d start ps is same inside ends run =
       let low : s < length t.twins.items = subst (λ (xs : List TwinsState). s < length xs) same inside in
-      let epoch : (slice_index_or ts s d).epoch ≡ ended w s n = ap (λ (xs : List TwinsState). (slice_index_or xs s d).epoch) same ∙ (run.twins.each s d low).epoch in
+      let epoch : (slice_index_or ts s d).epoch ≡ ended w s n = ap (λ (xs : List TwinsState). (slice_index_or xs s d).epoch) same
+      ∙ (run.twins.each s d low).epoch in
       let few : ended w s n < 65535 = ended_fits w n s is h (omega (arith, run.twins.count)) ends in
       omega arith
 
   -- before the step the twins are those of the first n steps
-  first_twins : (t : Traffic O C) (start : Offering S) (ps : List S) → k ≡ length (packets_until w n) → (is : IsRunTo picks post w n k start ps t) → AreTwins w n (meetings_in (packets_until w n)) is.carried t.twins.items
-  first_twins t start ps number is = subst (λ (xs : List Packet). AreTwins w n (meetings_in xs) is.carried t.twins.items) (prefix_at w n k (omega (arith, h)) number) is.twins
+  first_twins : (t : Traffic O C) (start : Offering S) (ps : List S) → k ≡ length (packets_until w n) → (is : IsRunTo picks post w n k start ps t)
+      → AreTwins w n (meetings_in (packets_until w n)) is.carried t.twins.items
+  first_twins t start ps number is = subst (λ (xs : List Packet). AreTwins w n (meetings_in xs) is.carried t.twins.items)
+      (prefix_at w n k (omega (arith, h)) number) is.twins
 
   -- an epoch of one switch ends
-  pub ended_one : (t t' : Traffic O C) (s : ℕ) (x : TwinsState) (start : Offering S) (ps : List S) → k ≡ length (packets_until w n) → step_in w n ≡ steps.End s → s < length w.switches → x ≡ slice_index_or t.twins.items s x →
-      t'.twins.items ≡ slice_set t.twins.items s (with_end x) → t'.post ≡ t.post → t'.held.items ≡ t.held.items → IsRunTo picks post w n k start ps t → IsRunTo picks post w (n + 1) k start ps t'
+  pub ended_one : (t t' : Traffic O C) (s : ℕ) (x : TwinsState) (start : Offering S) (ps : List S) → k ≡ length (packets_until w n)
+      → step_in w n ≡ steps.End s → s < length w.switches → x ≡ slice_index_or t.twins.items s x →
+      t'.twins.items ≡ slice_set t.twins.items s (with_end x) → t'.post ≡ t.post → t'.held.items ≡ t.held.items → IsRunTo picks post w n k start ps t
+      → IsRunTo picks post w (n + 1) k start ps t'
   ended_one t t' s x start ps number step inside found set post_is held_is is =
       let number' : k ≡ length (packets_until w (n + 1)) = quiet_number w n k h number (rw step refl) in
       let after = twins_end w n s is.carried t.twins.items x h step (omega (arith, inside, is.twins.count)) (first_twins t start ps number is) in
@@ -178,16 +195,20 @@ module _ {S O C : Type 0} (picks : Picks S) (post : Ghosts O C) (w : Scenario) (
 
   -- and one of every switch
   pub ended_every : (t t' : Traffic O C) (start : Offering S) (ps : List S) → k ≡ length (packets_until w n) → step_in w n ≡ steps.EndAll →
-      t'.twins.items ≡ map with_end t.twins.items → t'.post ≡ t.post → t'.held.items ≡ t.held.items → IsRunTo picks post w n k start ps t → IsRunTo picks post w (n + 1) k start ps t'
+      t'.twins.items ≡ map with_end t.twins.items → t'.post ≡ t.post → t'.held.items ≡ t.held.items → IsRunTo picks post w n k start ps t
+      → IsRunTo picks post w (n + 1) k start ps t'
   ended_every t t' start ps number step set post_is held_is is =
       let number' : k ≡ length (packets_until w (n + 1)) = quiet_number w n k h number (rw step refl) in
       let after = twins_end_all w n is.carried t.twins.items h step (first_twins t start ps number is) in
       stepped t t' start ps number' (rw step refl) post_is held_is is (rw (set, prefix_at w (n + 1) k (omega (arith, h)) number') after)
 
   -- a release
-  pub released_step : (t t' : Traffic O C) (start : Offering S) (ps : List S) → k ≡ length (packets_until w n) → step_in w n ≡ steps.Release → t'.twins.items ≡ t.twins.items → t'.held.items ≡ [] →
-      length (post.inboxes t'.post) ≡ length (post.inboxes t.post) → ((v : Scenario) (cs : List model.Carry) → post.notes t.post v cs → post.notes t'.post v cs) →
-      ((ds hs : List (ℕ × Column)) → AreHeld (post.stands t.post) hs t.held.items → AreDelivered IsPacked ds (post.inboxes t.post) → AreDelivered IsPacked (ds ++ reverse hs) (post.inboxes t'.post)) →
+  pub released_step : (t t' : Traffic O C) (start : Offering S) (ps : List S) → k ≡ length (packets_until w n) → step_in w n ≡ steps.Release
+      → t'.twins.items ≡ t.twins.items → t'.held.items ≡ [] →
+      length (post.inboxes t'.post) ≡ length (post.inboxes t.post)
+      → ((v : Scenario) (cs : List model.Carry) → post.notes t.post v cs → post.notes t'.post v cs) →
+      ((ds hs : List (ℕ × Column)) → AreHeld (post.stands t.post) hs t.held.items → AreDelivered IsPacked ds (post.inboxes t.post)
+      → AreDelivered IsPacked (ds ++ reverse hs) (post.inboxes t'.post)) →
       IsRunTo picks post w n k start ps t → IsRunTo picks post w (n + 1) k start ps t'
   released_step t t' start ps number step twins empty hosts noted came is =
       let cs = is.carried in
@@ -195,11 +216,13 @@ module _ {S O C : Type 0} (picks : Picks S) (post : Ghosts O C) (w : Scenario) (
       let ends : (s : ℕ) → is_end_of s (step_in w n) ≡ false = λ s. rw step refl in
       let before : arrived_to w n k ≡ arrivals_until w n = arrived_start w n k (omega (arith, h)) number in
       let waits : held_to w n k ≡ held w n = held_start w n k (omega (arith, h)) number in
-      let after : arrived_to w (n + 1) k ≡ arrivals_until w n ++ reverse (held w n) = arrived_start w (n + 1) k (omega (arith, h)) number' ∙ arrivals_released w n h step in
+      let after : arrived_to w (n + 1) k ≡ arrivals_until w n ++ reverse (held w n) = arrived_start w (n + 1) k (omega (arith, h)) number'
+      ∙ arrivals_released w n h step in
       let none : held_to w (n + 1) k ≡ [] = held_start w (n + 1) k (omega (arith, h)) number' ∙ held_released w n h (ap is_release step) in
       let all = came (deliveries w cs (arrivals_until w n)) (deliveries w cs (held w n)) (rw waits at is.mail.held) (rw before at is.mail.arrived) in
       let joined : deliveries w cs (arrived_to w (n + 1) k) ≡ deliveries w cs (arrivals_until w n) ++ reverse (deliveries w cs (held w n)) =
-      ap (deliveries w cs) after ∙ deliveries_append w cs (arrivals_until w n) (reverse (held w n)) ∙ ap (λ ds. deliveries w cs (arrivals_until w n) ++ ds) (deliveries_reverse w cs (held w n)) in
+      ap (deliveries w cs) after ∙ deliveries_append w cs (arrivals_until w n) (reverse (held w n))
+      ∙ ap (λ ds. deliveries w cs (arrivals_until w n) ++ ds) (deliveries_reverse w cs (held w n)) in
       record {
         carried = cs;
         chosen = is.chosen;

@@ -31,33 +31,39 @@ module _ {S O C : Type 0} (picks : Picks S) (post : Ghosts O C) (w : Scenario) (
   pub counted : (t t' : Traffic O C) (twin : TwinsState) → twin ≡ slice_index_or t.twins.items m.switch_at twin →
       t'.twins.items ≡ slice_set t.twins.items m.switch_at (with_seen twin (observation (meeting_is m))) → t'.post ≡ t.post → t'.held.items ≡ t.held.items →
       (start : Offering S) (ps : List S) (hand : Option C) →
-      IsRun picks post w (at_hops w m.step_at m.number (m.hop - 1) (m.hop - 1)) start ps t hand → IsRun picks post w (at_hops w m.step_at m.number m.hop (m.hop - 1)) start ps t' hand
+      IsRun picks post w (at_hops w m.step_at m.number (m.hop - 1) (m.hop - 1)) start ps t hand
+      → IsRun picks post w (at_hops w m.step_at m.number m.hop (m.hop - 1)) start ps t' hand
   counted t t' twin found seen post_is held_is start ps hand is =
       let inside : m.switch_at < length t.twins.items = omega (arith, is.twins.count, visit.switch) in
-      let seen' : t'.twins.items ≡ slice_set t.twins.items m.switch_at (with_seen (slice_index_or t.twins.items m.switch_at twin) (observation (meeting_is m))) =
+      let seen' : t'.twins.items ≡ slice_set t.twins.items m.switch_at
+      (with_seen (slice_index_or t.twins.items m.switch_at twin) (observation (meeting_is m))) =
       seen ∙ ap (λ (x : TwinsState). slice_set t.twins.items m.switch_at (with_seen x (observation (meeting_is m)))) found in
       record {
         carried = is.carried;
         chosen = is.chosen;
         before = is.before;
         few = is.few;
-        twins = seen_all w (meeting_is m) (meetings_to w m.number (m.hop - 1)) (meetings_to w m.number m.hop) is.carried t.twins.items t'.twins.items twin is.twins inside visit.next seen';
+        twins = seen_all w (meeting_is m) (meetings_to w m.number (m.hop - 1))
+            (meetings_to w m.number m.hop) is.carried t.twins.items t'.twins.items twin is.twins inside visit.next seen';
         cargo_is = rw post_is is.cargo_is;
         mail = mail_same post w m.step_at m.number is.carried t t' post_is held_is is.mail;
       }
 
-  pub epoch_is : (t : Traffic O C) (twin : TwinsState) → twin ≡ slice_index_or t.twins.items m.switch_at twin → (start : Offering S) (ps : List S) (hand : Option C) →
+  pub epoch_is : (t : Traffic O C) (twin : TwinsState) → twin ≡ slice_index_or t.twins.items m.switch_at twin
+      → (start : Offering S) (ps : List S) (hand : Option C) →
       IsRun picks post w (at_hops w m.step_at m.number (m.hop - 1) (m.hop - 1)) start ps t hand → twin.epoch ≡ ended w m.switch_at m.step_at
   epoch_is t twin found start ps hand is =
       let inside : m.switch_at < length t.twins.items = omega (arith, is.twins.count, visit.switch) in
       ap (λ (x : TwinsState). x.epoch) found ∙ (is.twins.each m.switch_at twin inside).epoch
 
   -- the packet goes on without an offer
-  pub passed : (t : Traffic O C) (start : Offering S) (ps : List S) (hand : Option C) (is : IsRun picks post w (at_hops w m.step_at m.number m.hop (m.hop - 1)) start ps t hand) →
+  pub passed : (t : Traffic O C) (start : Offering S) (ps : List S) (hand : Option C)
+      (is : IsRun picks post w (at_hops w m.step_at m.number m.hop (m.hop - 1)) start ps t hand) →
       is_offered w is.carried (meeting_is m) ≡ false → IsRun picks post w (at_hops w m.step_at m.number m.hop m.hop) start ps t hand
   passed t start ps hand is none = record {
     carried = is.carried;
-    chosen = rw visit.next (runs_more (IsPick picks w) (meetings_to w m.number (m.hop - 1)) (meeting_is m) start (offering ps is.carried) (offering ps is.carried) is.chosen
+    chosen = rw visit.next (runs_more (IsPick picks w) (meetings_to w m.number (m.hop - 1)) (meeting_is m) start (offering ps is.carried)
+        (offering ps is.carried) is.chosen
         (pick_none picks w (meeting_is m) ps is.carried none));
     before = is.before;
     few = is.few;
@@ -74,7 +80,8 @@ module _ {S O C : Type 0} (picks : Picks S) (post : Ghosts O C) (w : Scenario) (
     pub says : picks p (m.hops - m.hop + 1) (offer_of twin) answer p'
     pub lawful : IsLawful (m.hops - m.hop + 1) (offer_of twin) answer
 
-  pub answered : (t : Traffic O C) (ps : List S) (twin : TwinsState) (p p' : S) (answer : Option ℕ) → Answers t ps twin p p' answer → (start : Offering S) (is : IsRun picks post w (at_hops w m.step_at m.number m.hop (m.hop - 1)) start ps t None) →
+  pub answered : (t : Traffic O C) (ps : List S) (twin : TwinsState) (p p' : S) (answer : Option ℕ) → Answers t ps twin p p' answer
+      → (start : Offering S) (is : IsRun picks post w (at_hops w m.step_at m.number m.hop (m.hop - 1)) start ps t None) →
       IsPick picks w (meeting_is m) (offering ps is.carried) (offering (slice_set ps m.switch_at p') (with_choice w (meeting_is m) is.carried answer))
   answered t ps twin p p' answer a start is =
       let cs = is.carried in
@@ -96,15 +103,18 @@ module _ {S O C : Type 0} (picks : Picks S) (post : Ghosts O C) (w : Scenario) (
       }
 
   pub emptied : (t : Traffic O C) (ps : List S) (hand : Option C) → hand ≡ None → (start : Offering S) →
-      IsRun picks post w (at_hops w m.step_at m.number m.hop (m.hop - 1)) start ps t hand → IsRun picks post w (at_hops w m.step_at m.number m.hop (m.hop - 1)) start ps t None
+      IsRun picks post w (at_hops w m.step_at m.number m.hop (m.hop - 1)) start ps t hand
+      → IsRun picks post w (at_hops w m.step_at m.number m.hop (m.hop - 1)) start ps t None
   emptied t ps hand empty start is = subst (IsRun picks post w (at_hops w m.step_at m.number m.hop (m.hop - 1)) start ps t) empty is
 
   -- no column
   pub declined : (t : Traffic O C) (ps : List S) (twin : TwinsState) (p p' : S) → Answers t ps twin p p' None → (start : Offering S) →
-      IsRun picks post w (at_hops w m.step_at m.number m.hop (m.hop - 1)) start ps t None → IsRun picks post w (at_hops w m.step_at m.number m.hop m.hop) start (slice_set ps m.switch_at p') t None
+      IsRun picks post w (at_hops w m.step_at m.number m.hop (m.hop - 1)) start ps t None
+      → IsRun picks post w (at_hops w m.step_at m.number m.hop m.hop) start (slice_set ps m.switch_at p') t None
   declined t ps twin p p' a start is = record {
     carried = is.carried;
-    chosen = rw visit.next (runs_more (IsPick picks w) (meetings_to w m.number (m.hop - 1)) (meeting_is m) start (offering ps is.carried) (offering (slice_set ps m.switch_at p') is.carried) is.chosen
+    chosen = rw visit.next (runs_more (IsPick picks w) (meetings_to w m.number (m.hop - 1)) (meeting_is m) start (offering ps is.carried)
+        (offering (slice_set ps m.switch_at p') is.carried) is.chosen
         (answered t ps twin p p' None a start is));
     before = is.before;
     few = is.few;
@@ -117,7 +127,8 @@ module _ {S O C : Type 0} (picks : Picks S) (post : Ghosts O C) (w : Scenario) (
   abbrev pub entry : (e j : ℕ) → Carry
   entry e j = record { packet = m.number; hop = m.hop; switch_at = m.switch_at; switch = m.switch; epoch = e - 1; index = j }
 
-  pub may_take : (t : Traffic O C) (ps : List S) (twin : TwinsState) (p p' : S) (j e : ℕ) → Answers t ps twin p p' (Some j) → e ≡ twin.epoch → (start : Offering S) (is : IsRun picks post w (at_hops w m.step_at m.number m.hop (m.hop - 1)) start ps t None) →
+  pub may_take : (t : Traffic O C) (ps : List S) (twin : TwinsState) (p p' : S) (j e : ℕ) → Answers t ps twin p p' (Some j) → e ≡ twin.epoch
+      → (start : Offering S) (is : IsRun picks post w (at_hops w m.step_at m.number m.hop (m.hop - 1)) start ps t None) →
       MayTake w is.carried twin (entry e j)
   may_take t ps twin p p' j e a epoch start is =
       let inside : m.switch_at < length t.twins.items = omega (arith, is.twins.count, visit.switch) in
@@ -132,32 +143,49 @@ module _ {S O C : Type 0} (picks : Picks S) (post : Ghosts O C) (w : Scenario) (
         epoch = omega (arith, epoch, its.epoch, a.some);
         column = ap (λ (x : TwinsState). frozen_column x m.switch j) a.found
             ∙ column_is w (meeting_is m) (meetings_to w m.number m.hop) is.carried t.twins.items twin j m.switch is.twins inside a.some visit.name
-            ∙ ap (λ (b : ℕ). column_of w (record { packet = m.number; hop = m.hop; switch_at = m.switch_at; epoch = b - 1; index = j })) (sym (epoch ∙ its.epoch));
+            ∙ ap (λ (b : ℕ). column_of w (record { packet = m.number; hop = m.hop; switch_at = m.switch_at; epoch = b - 1; index = j }))
+            (sym (epoch ∙ its.epoch));
       }
 
   pub taken : (t t' : Traffic O C) (ps : List S) (twin : TwinsState) (p p' : S) (j e : ℕ) (cargo : C) → Answers t ps twin p p' (Some j) → e ≡ twin.epoch →
-      ((v : Scenario) (cs : List model.Carry) → post.notes t.post v cs → MayTake v cs twin (entry e j) → post.notes t'.post v (cs ++ carry_is (entry e j) ∷ [])) →
-      ((v : Scenario) (cs : List model.Carry) → post.notes t.post v cs → MayTake v cs twin (entry e j) → post.stands t'.post cargo (column_of v (carry_is (entry e j)))) →
+      ((v : Scenario) (cs : List model.Carry) → post.notes t.post v cs → MayTake v cs twin (entry e j)
+      → post.notes t'.post v (cs ++ carry_is (entry e j) ∷ [])) →
+      ((v : Scenario) (cs : List model.Carry) → post.notes t.post v cs → MayTake v cs twin (entry e j)
+      → post.stands t'.post cargo (column_of v (carry_is (entry e j)))) →
       ((c : C) (column : Column) → post.stands t.post c column → post.stands t'.post c column) → post.inboxes t'.post ≡ post.inboxes t.post →
-      (now : TwinsState) → now ≡ slice_index_or t.twins.items m.switch_at now → t'.twins.items ≡ slice_set t.twins.items m.switch_at (with_put now j) → t'.held.items ≡ t.held.items → (start : Offering S) →
-      IsRun picks post w (at_hops w m.step_at m.number m.hop (m.hop - 1)) start ps t None → IsRun picks post w (at_hops w m.step_at m.number m.hop m.hop) start (slice_set ps m.switch_at p') t' (Some cargo)
+      (now : TwinsState) → now ≡ slice_index_or t.twins.items m.switch_at now → t'.twins.items ≡ slice_set t.twins.items m.switch_at (with_put now j)
+      → t'.held.items ≡ t.held.items → (start : Offering S) →
+      IsRun picks post w (at_hops w m.step_at m.number m.hop (m.hop - 1)) start ps t None
+      → IsRun picks post w (at_hops w m.step_at m.number m.hop m.hop) start (slice_set ps m.switch_at p') t' (Some cargo)
   taken t t' ps twin p p' j e cargo a epoch noted stands stays inboxes now now_is put held_is start is =
       let cs = is.carried in
       let may = may_take t ps twin p p' j e a epoch start is in
       let inside : m.switch_at < length t.twins.items = omega (arith, is.twins.count, visit.switch) in
-      let its : IsTwinsState w m.step_at (meetings_to w m.number m.hop) cs m.switch_at (slice_index_or t.twins.items m.switch_at twin) = is.twins.each m.switch_at twin inside in
+      let its : IsTwinsState w m.step_at (meetings_to w m.number m.hop) cs m.switch_at (slice_index_or t.twins.items m.switch_at twin) =
+      is.twins.each m.switch_at twin inside in
       let ended_is : e ≡ ended_before w (meeting_is m) = epoch ∙ ap (λ (x : TwinsState). x.epoch) a.found ∙ its.epoch in
-      let entry_is : carry_is (entry e j) ≡ carry_at w (meeting_is m) j = λ i. record { packet = m.number; hop = m.hop; switch_at = m.switch_at; epoch = ended_is i - 1; index = j } in
+      let entry_is : carry_is (entry e j) ≡ carry_at w (meeting_is m) j =
+      λ i. record { packet = m.number; hop = m.hop; switch_at = m.switch_at; epoch = ended_is i - 1; index = j } in
       let cs' = cs ++ carry_is (entry e j) ∷ [] in
       let more : cs' ≡ cs ++ carry_at w (meeting_is m) j ∷ [] = ap (λ (x : model.Carry). cs ++ x ∷ []) entry_is in
       let none : model.carries cs m.number ≡ false = empty_hand (post.stands t.post) w cs m.number is.cargo_is in
-      let there : cargo_of w cs' m.number ≡ Some (column_of w (carry_is (entry e j))) = ap (λ (xs : List model.Carry). cargo_of w xs m.number) more ∙ cargo_new w cs (meeting_is m) j none ∙ ap (λ (x : model.Carry). Some (column_of w x)) (sym entry_is) in
-      let adds : Adds m.number cs cs' = record { more = carry_is (entry e j) ∷ []; is = refl; late = All-cons (λ (c : model.Carry). m.number ≤ c.packet) (carry_is (entry e j)) [] (let here : m.number ≤ m.number = omega arith in here) (All-nil (λ (c : model.Carry). m.number ≤ c.packet)) } in
+      let there : cargo_of w cs' m.number ≡ Some (column_of w (carry_is (entry e j))) = ap (λ (xs : List model.Carry). cargo_of w xs m.number) more
+      ∙ cargo_new w cs (meeting_is m) j none ∙ ap (λ (x : model.Carry). Some (column_of w x)) (sym entry_is) in
+      let adds : Adds m.number cs cs' = record {
+        more = carry_is (entry e j) ∷ [];
+        is = refl;
+        late =
+            All-cons (λ (c : model.Carry). m.number ≤ c.packet) (carry_is (entry e j)) [] (let here : m.number ≤ m.number = omega arith in here)
+            (All-nil (λ (c : model.Carry). m.number ≤ c.packet));
+      } in
       record {
         carried = cs';
-        chosen = rw visit.next (runs_more (IsPick picks w) (meetings_to w m.number (m.hop - 1)) (meeting_is m) start (offering ps cs) (offering (slice_set ps m.switch_at p') cs') is.chosen
+        chosen = rw visit.next (runs_more (IsPick picks w) (meetings_to w m.number (m.hop - 1)) (meeting_is m) start (offering ps cs)
+            (offering (slice_set ps m.switch_at p') cs') is.chosen
             (rw more (answered t ps twin p p' (Some j) a start is)));
-        before = All-push (IsBefore (m.number + 1)) cs (carry_is (entry e j)) (before_more m.number cs (subst (λ (b : ℕ). All (IsBefore b) cs) (add-zero m.number) is.before)) (let here : m.number < m.number + 1 = omega arith in here);
+        before = All-push (IsBefore (m.number + 1)) cs (carry_is (entry e j))
+            (before_more m.number cs (subst (λ (b : ℕ). All (IsBefore b) cs) (add-zero m.number) is.before))
+            (let here : m.number < m.number + 1 = omega arith in here);
         few = omega (arith, is.few, length_push cs (carry_is (entry e j)));
         twins = put_all w (meeting_is m) (meetings_to w m.number m.hop) cs cs' t.twins.items t'.twins.items now j is.twins inside a.some may.index more
             (put ∙ ap (λ (x : TwinsState). slice_set t.twins.items m.switch_at (with_put x j)) now_is);

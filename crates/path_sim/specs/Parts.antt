@@ -16,7 +16,17 @@ use Rattle.path_sim.specs.declared.meeting.Visit.{Visit}
 use Rattle.path_sim.specs.declared.carry.Carry.{Carry}
 
 abbrev pub meeting_is : Visit → Meeting
-meeting_is m = record { number = m.number; step_at = m.step_at; hop = m.hop; hops = m.hops; switch_at = m.switch_at; key = m.key; size = m.size; delay = m.delay }
+meeting_is m = record {
+  number = m.number;
+  step_at = m.step_at;
+  hop = m.hop;
+  hops = m.hops;
+  switch_at = m.switch_at;
+  key = m.key;
+  size = m.size;
+  delay =
+      m.delay;
+}
 
 abbrev pub carry_is : Carry → model.Carry
 carry_is c = record { packet = c.packet; hop = c.hop; switch_at = c.switch_at; epoch = c.epoch; index = c.index }

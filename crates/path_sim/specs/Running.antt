@@ -54,7 +54,8 @@ IsCargo post w k cs t hand = MatchedOption (post.stands t.post) hand (cargo w cs
 -- A run that began with these pickers is that far: there is a carry list that the answers of the pickers give, by these
 -- packets and at most one a packet, the twins and the mail are those of this list, and the cargo is what the packet
 -- that is under way carries.
-pub record IsRun {S O C : Type 0} (picks : Picks S) (post : Ghosts O C) (w : Scenario) (at : Progress) (start : Offering S) (ps : List S) (t : Traffic O C) (in_hand : Option C) : Type 0 where
+pub record IsRun {S O C : Type 0} (picks : Picks S) (post : Ghosts O C) (w : Scenario) (at : Progress) (start : Offering S) (ps : List S)
+    (t : Traffic O C) (in_hand : Option C) : Type 0 where
   pub carried : List model.Carry
   pub chosen : Runs (IsPick picks w) at.offered start (offering ps carried)
   pub before : All (IsBefore (at.number + some_count in_hand)) carried

@@ -76,7 +76,8 @@ pub fn run_net<P: Picker>(
     ensures names { IfOk result (λ a. All (IsNamed scenario.now) a.carried) }
     // Each host has the brought columns, in order of arrival.
     ensures arrived { IfOk result (λ a. HaveArrived scenario.now (carried_are a.carried) a.inboxes) }
-    ensures twins { IfOk result (λ a. AreTwins scenario.now (length scenario.now.steps) (meetings scenario.now) (carried_are a.carried) a.twins) }
+    ensures twins { IfOk result (λ a. AreTwins scenario.now (length scenario.now.steps) (meetings scenario.now)
+        (carried_are a.carried) a.twins) }
 {
     let boxes = Boxes::new(alloc, scenario)?;
     let Ran { post, twins } = run_over(alloc, scenario, pickers, boxes)?;

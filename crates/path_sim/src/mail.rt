@@ -27,8 +27,10 @@ pub fn settle<O: Post + Drop>(
     traffic: &mut Traffic<O>,
 ) -> Result<(), Memory>
     requires sent { IsSending scenario.now number sent.now }
-    requires mail { (cs : List model.Carry) × IsMail O.Post.own scenario.now sent.now.step_at number cs traffic.old × IsCargo O.Post.own scenario.now number cs traffic.old cargo }
-    ensures mail { IfOk result (λ _. (cs : List model.Carry) → IsMail O.Post.own scenario.now sent.now.step_at number cs traffic.old → IsCargo O.Post.own scenario.now number cs traffic.old cargo
+    requires mail { (cs : List model.Carry) × IsMail O.Post.own scenario.now sent.now.step_at number cs traffic.old
+        × IsCargo O.Post.own scenario.now number cs traffic.old cargo }
+    ensures mail { IfOk result (λ _. (cs : List model.Carry) → IsMail O.Post.own scenario.now sent.now.step_at number cs traffic.old
+        → IsCargo O.Post.own scenario.now number cs traffic.old cargo
         → IsMail O.Post.own scenario.now sent.now.step_at (number + 1) cs traffic.new) }
     ensures twins { IfOk result (λ _. traffic.new.twins ≡ traffic.old.twins) }
 {

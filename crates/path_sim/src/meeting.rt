@@ -65,9 +65,12 @@ fn offer<P: Picker, O: Post + Drop>(
     requires pickers { length pickers.old ≡ length scenario.now.switches }
     requires epoch { 0 < ended scenario.now m.now.switch_at m.now.step_at }
     requires empty { cargo.old ≡ None }
-    requires run { (start : _) × IsRun P.picks O.Post.own scenario.now (at_hops scenario.now m.now.step_at m.now.number m.now.hop (m.now.hop - 1)) start pickers.old traffic.old cargo.old }
-    ensures run { IfOk result (λ _. (start : _) → IsRun P.picks O.Post.own scenario.now (at_hops scenario.now m.now.step_at m.now.number m.now.hop (m.now.hop - 1)) start pickers.old traffic.old cargo.old
-        → IsRun P.picks O.Post.own scenario.now (at_hops scenario.now m.now.step_at m.now.number m.now.hop m.now.hop) start pickers.new traffic.new cargo.new) }
+    requires run { (start : _) × IsRun P.picks O.Post.own scenario.now
+        (at_hops scenario.now m.now.step_at m.now.number m.now.hop (m.now.hop - 1)) start pickers.old traffic.old cargo.old }
+    ensures run { IfOk result (λ _. (start : _) → IsRun P.picks O.Post.own scenario.now
+        (at_hops scenario.now m.now.step_at m.now.number m.now.hop (m.now.hop - 1)) start pickers.old traffic.old cargo.old
+        → IsRun P.picks O.Post.own scenario.now (at_hops scenario.now m.now.step_at m.now.number m.now.hop m.now.hop) start
+        pickers.new traffic.new cargo.new) }
 {
     let at = m.switch_at as usize;
     let twin = &traffic.twins[at];
@@ -103,9 +106,12 @@ pub fn meet<P: Picker, O: Post + Drop>(
 ) -> Result<(), Memory>
     requires visit { IsVisit scenario.now m.now }
     requires pickers { length pickers.old ≡ length scenario.now.switches }
-    requires run { (start : _) × IsRun P.picks O.Post.own scenario.now (at_hops scenario.now m.now.step_at m.now.number (m.now.hop - 1) (m.now.hop - 1)) start pickers.old traffic.old cargo.old }
-    ensures run { IfOk result (λ _. (start : _) → IsRun P.picks O.Post.own scenario.now (at_hops scenario.now m.now.step_at m.now.number (m.now.hop - 1) (m.now.hop - 1)) start pickers.old traffic.old cargo.old
-        → IsRun P.picks O.Post.own scenario.now (at_hops scenario.now m.now.step_at m.now.number m.now.hop m.now.hop) start pickers.new traffic.new cargo.new) }
+    requires run { (start : _) × IsRun P.picks O.Post.own scenario.now
+        (at_hops scenario.now m.now.step_at m.now.number (m.now.hop - 1) (m.now.hop - 1)) start pickers.old traffic.old cargo.old }
+    ensures run { IfOk result (λ _. (start : _) → IsRun P.picks O.Post.own scenario.now
+        (at_hops scenario.now m.now.step_at m.now.number (m.now.hop - 1) (m.now.hop - 1)) start pickers.old traffic.old cargo.old
+        → IsRun P.picks O.Post.own scenario.now (at_hops scenario.now m.now.step_at m.now.number m.now.hop m.now.hop) start
+        pickers.new traffic.new cargo.new) }
 {
     let twin = &mut traffic.twins[m.switch_at as usize];
     count(&scenario.shape(), twin, m);

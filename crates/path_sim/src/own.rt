@@ -33,7 +33,8 @@ pub fn run_own(alloc: Global, scenario: &Scenario) -> Result<Arrivals, Memory>
     ensures allowed { IfOk result (λ a. IsAllowed scenario.now (picked scenario.now)) }
     ensures names { IfOk result (λ a. All (IsNamed scenario.now) a.carried) }
     ensures arrived { IfOk result (λ a. HaveArrived scenario.now (picked scenario.now) a.inboxes) }
-    ensures twins { IfOk result (λ a. AreTwins scenario.now (length scenario.now.steps) (meetings scenario.now) (picked scenario.now) a.twins) }
+    ensures twins { IfOk result (λ a. AreTwins scenario.now (length scenario.now.steps) (meetings scenario.now)
+        (picked scenario.now) a.twins) }
 {
     let mut pickers = own_pickers(alloc, scenario)?;
     run_net(alloc, scenario, &mut pickers)

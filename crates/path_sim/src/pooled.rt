@@ -70,7 +70,8 @@ pub fn run_pooled(alloc: Global, scenario: &Scenario) -> Result<PooledArrivals, 
     ensures arrived { IfOk result (λ a. HaveArrived scenario.now (picked scenario.now) (pooled a.kept a.places)) }
     ensures inside { IfOk result (λ a. AreInside a.kept a.places) }
     ensures short { IfOk result (λ a. All (λ p. p.len ≤ MOST_SKETCHLET_BYTES) a.kept) }
-    ensures twins { IfOk result (λ a. AreTwins scenario.now (length scenario.now.steps) (meetings scenario.now) (picked scenario.now) a.twins) }
+    ensures twins { IfOk result (λ a. AreTwins scenario.now (length scenario.now.steps) (meetings scenario.now)
+        (picked scenario.now) a.twins) }
 {
     let mut pickers = own_pickers(alloc, scenario)?;
     let pool = Pool::new(alloc, scenario)?;

@@ -47,7 +47,8 @@ fn run_steps<P: Picker, O: Post + Drop>(
     requires places { places.now ≡ flow_places scenario.now }
     requires run { (start : _) × IsRunTo P.picks O.Post.own scenario.now 0 0 start pickers.old traffic.old }
     ensures run { IfOk result (λ _. (start : _) → IsRunTo P.picks O.Post.own scenario.now 0 0 start pickers.old traffic.old
-        → IsRunTo P.picks O.Post.own scenario.now (length scenario.now.steps) (length (packets scenario.now)) start pickers.new traffic.new) }
+        → IsRunTo P.picks O.Post.own scenario.now (length scenario.now.steps)
+        (length (packets scenario.now)) start pickers.new traffic.new) }
 {
     let mut number = 0;
     for n in 0..scenario.steps().len() {

@@ -46,7 +46,8 @@ fn send<P: Picker, O: Post + Drop>(
     requires sent { IsSending scenario.now number sent.now }
     requires pickers { length pickers.old ≡ length scenario.now.switches }
     requires run { (start : _) × IsRunTo P.picks O.Post.own scenario.now sent.now.step_at number start pickers.old traffic.old }
-    ensures run { IfOk result (λ cargo. (start : _) → IsRunTo P.picks O.Post.own scenario.now sent.now.step_at number start pickers.old traffic.old
+    ensures run { IfOk result (λ cargo. (start : _) → IsRunTo P.picks O.Post.own scenario.now sent.now.step_at number start
+        pickers.old traffic.old
         → IsRun P.picks O.Post.own scenario.now (after_packet scenario.now sent.now.step_at number) start pickers.new traffic.new cargo) }
 {
     let hops = sent.flow.path.items();
@@ -84,7 +85,8 @@ pub fn send_one<P: Picker, O: Post + Drop>(
     requires sent { IsSending scenario.now number sent.now }
     requires pickers { length pickers.old ≡ length scenario.now.switches }
     requires run { (start : _) × IsRunTo P.picks O.Post.own scenario.now sent.now.step_at number start pickers.old traffic.old }
-    ensures run { IfOk result (λ _. (start : _) → IsRunTo P.picks O.Post.own scenario.now sent.now.step_at number start pickers.old traffic.old
+    ensures run { IfOk result (λ _. (start : _) → IsRunTo P.picks O.Post.own scenario.now sent.now.step_at number start pickers.old
+        traffic.old
         → IsRunTo P.picks O.Post.own scenario.now sent.now.step_at (number + 1) start pickers.new traffic.new) }
 {
     let cargo = send(scenario, number, sent, pickers, traffic)?;
@@ -103,7 +105,8 @@ pub fn send_all<P: Picker, O: Post + Drop>(
     requires sent { (b : ℕ) → b < sent.now.burst → IsSending scenario.now (number + b) sent.now }
     requires pickers { length pickers.old ≡ length scenario.now.switches }
     requires run { (start : _) × IsRunTo P.picks O.Post.own scenario.now sent.now.step_at number start pickers.old traffic.old }
-    ensures run { IfOk result (λ _. (start : _) → IsRunTo P.picks O.Post.own scenario.now sent.now.step_at number start pickers.old traffic.old
+    ensures run { IfOk result (λ _. (start : _) → IsRunTo P.picks O.Post.own scenario.now sent.now.step_at number start pickers.old
+        traffic.old
         → IsRunTo P.picks O.Post.own scenario.now sent.now.step_at (number + sent.now.burst) start pickers.new traffic.new) }
 {
     for b in 0..sent.burst {

@@ -44,7 +44,8 @@ fn packet_step<P: Picker, O: Post + Drop>(
     requires run { (start : _) × IsRunTo P.picks O.Post.own scenario.now sent.now.step_at number start pickers.old traffic.old }
     ensures number { number + sent.now.burst ≡ length (packets_until scenario.now (sent.now.step_at + 1)) }
     ensures few { number + sent.now.burst ≤ MOST_PACKETS }
-    ensures run { IfOk result (λ _. (start : _) → IsRunTo P.picks O.Post.own scenario.now sent.now.step_at number start pickers.old traffic.old
+    ensures run { IfOk result (λ _. (start : _) → IsRunTo P.picks O.Post.own scenario.now sent.now.step_at number start pickers.old
+        traffic.old
         → IsRunTo P.picks O.Post.own scenario.now (sent.now.step_at + 1) (number + sent.now.burst) start pickers.new traffic.new) }
 {
     let _fits = scenario.flows();

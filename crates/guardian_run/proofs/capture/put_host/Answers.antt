@@ -29,5 +29,11 @@ returns c =
     let ps = items_at c.args.kept.now c.args.arrived.now in
     let cs = brought c.args.scenario.now (picked c.args.scenario.now) c.args.host_at in
     let i = c.loop-place.place-index in
-    let end : i ≡ length ps = omega (arith, c.loop-place-test.false, c.loop-place.auto.place-index-end, length-map c.args.arrived.now (item_at c.args.kept.now)) in
+    let end : i ≡ length ps = omega (
+      arith,
+      c.loop-place-test.false,
+      c.loop-place.auto.place-index-end,
+      length-map c.args.arrived.now
+          (item_at c.args.kept.now),
+    ) in
     hex_all ps cs i c.args.host.now.name c.args.text.now.items c.loop-place.text.items c.requires.packed end c.loop-place.invariant

@@ -14,7 +14,8 @@ returns-in-Ok g c source left =
     demo_ends g.D.Disk.honest g.D.Disk.seen g.D.Disk.images g.D.Disk.moment g.D.Disk.since g.D.Disk.faults c.args.rounds source sink c.args.disk
     c.show_over.result.1 c.show_over.result.0 left
     (subst (λ (w : Scenario). IsWhole w) is c.show_over.ensures.whole) standing
-    (subst (λ (w : Scenario). ShowsFrom g.D.Disk.honest g.D.Disk.seen g.D.Disk.images g.D.Disk.moment g.D.Disk.since g.D.Disk.faults c.args.rounds w sink c.args.disk
+    (subst (λ (w : Scenario). ShowsFrom g.D.Disk.honest g.D.Disk.seen g.D.Disk.images g.D.Disk.moment g.D.Disk.since g.D.Disk.faults c.args.rounds w
+    sink c.args.disk
     c.show_over.result.1 c.show_over.result.0) is c.show_over.ensures.ends)
 
 pub returns-in-Err : goal.returns-in-Err

@@ -27,5 +27,6 @@ returns c =
     let packets : 160 * n + 256 ≡ packet_count w.steps = sym law.packets ∙ ap (λ (v : Scenario). packet_count v.steps) (sym c.requires.generated) in
     let mine = figures n (160 * n + 256) c.arrived.result c.count.result (length c.asks.result.now) c.unknown.result in
     c.in_ok-put_summary.ensures ∙ ap (λ (xs : List ℕ). xs ++ summary_lines mine) c.new-text.ensures.items
-    ∙ ap summary_lines (figures_are n (160 * n + 256) c.arrived.result c.count.result (length c.asks.result.now) c.unknown.result (content c.args.book.now.entries) w
+    ∙ ap summary_lines (figures_are n (160 * n + 256) c.arrived.result c.count.result (length c.asks.result.now) c.unknown.result
+    (content c.args.book.now.entries) w
     packets c.arrived.ensures c.count.ensures.content (ap length c.asks.ensures.value) c.unknown.ensures)

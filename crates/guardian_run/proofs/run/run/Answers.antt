@@ -20,4 +20,5 @@ returns-in-Err g c =
     let e = c.in-Err.ensures in
     ends_unread g.D.Disk.honest g.D.Disk.seen g.D.Disk.images g.D.Disk.moment g.D.Disk.since g.D.Disk.faults source sink c.args.disk c.args.disk c.end.result
     c.in-Err.fault refl e.says e.took e.fault e.never_falls (subst (λ r. EndsRefused r sink c.end.result) c.from.ensures c.end.ensures.refused)
-    (no_read g.D.Disk.honest g.D.Disk.seen g.D.Disk.images g.D.Disk.moment g.D.Disk.since g.D.Disk.faults (g.met.D.Disk g.world.𝓛 g.world.𝓜 g.world.𝓡 ((λ s x. x), (λ x. x), (λ x. x), λ x. x)).only_now c.args.disk)
+    (no_read g.D.Disk.honest g.D.Disk.seen g.D.Disk.images g.D.Disk.moment g.D.Disk.since g.D.Disk.faults
+    (g.met.D.Disk g.world.𝓛 g.world.𝓜 g.world.𝓡 ((λ s x. x), (λ x. x), (λ x. x), λ x. x)).only_now c.args.disk)

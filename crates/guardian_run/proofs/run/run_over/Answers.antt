@@ -20,7 +20,8 @@ returns-in-Err-clause-ends g c =
     let start = c.args.disk in
     let asked = c.shape.ensures.value in
     let e = c.in-Err.ensures in
-    start_ends g.D.Disk.honest g.D.Disk.seen g.D.Disk.images g.D.Disk.moment g.D.Disk.since g.D.Disk.faults w sink c.end.result c.in-Err.fault start c.in-Err.disk
+    start_ends g.D.Disk.honest g.D.Disk.seen g.D.Disk.images g.D.Disk.moment g.D.Disk.since g.D.Disk.faults w sink c.end.result c.in-Err.fault start
+    c.in-Err.disk
     (subst (λ (s : Shape). Reads (g.D.Disk.honest start) (g.D.Disk.seen start) (λ file. IsRefused s ROOM file c.in-Err.fault)) asked e.refused)
     (subst (λ r. EndsRefused r sink c.end.result) c.from.ensures c.end.ensures.refused)
     e.cause
@@ -44,7 +45,8 @@ returns-clause-ends g c =
     let low = c.count.ensures.few in omega (arith, count, room, low) in
     subst (λ d. RunsFrom g.D.Disk.honest g.D.Disk.seen g.D.Disk.images g.D.Disk.moment g.D.Disk.since g.D.Disk.faults w sink start d c.end_run.result)
     (sym c.close-disk.ensures.disk)
-    (run_ends g.D.Disk.honest g.D.Disk.seen g.D.Disk.images g.D.Disk.moment g.D.Disk.since g.D.Disk.faults (g.met.D.Disk g.world.𝓛 g.world.𝓜 g.world.𝓡 ((λ s x. x), (λ x. x), (λ x. x), λ x. x)).reads_image w c.shape.ensures.whole
+    (run_ends g.D.Disk.honest g.D.Disk.seen g.D.Disk.images g.D.Disk.moment g.D.Disk.since g.D.Disk.faults
+    (g.met.D.Disk g.world.𝓛 g.world.𝓜 g.world.𝓡 ((λ s x. x), (λ x. x), (λ x. x), λ x. x)).reads_image w c.shape.ensures.whole
     c.lists_are_true.ensures c.files_stand_for_one_list.ensures sink start j new (ap (λ x. x.shape) o.book ∙ asked)
     (λ h. subst (λ (s : Shape). StandsFor s (records j.entries) (g.D.Disk.seen start)) asked (o.stands h)) few
     (λ h. subst (λ (s : Shape). OpenLeaves g.D.Disk.honest g.D.Disk.seen g.D.Disk.images g.D.Disk.moment g.D.Disk.since s start j.disk) asked (o.leaves h))

@@ -5,7 +5,8 @@ use Rattle.guardian_run.proofs.storing.prepare.Goals as goal
 
 pub returns-clause-calls : goal.returns-clause-calls
 returns-clause-calls c =
-    calls c.args.scenario.now (pooled c.args.arrivals.now.kept c.args.arrivals.now.places) c.in_ok-senders.senders.items c.requires.fits c.requires.arrived.arrived c.in_ok-senders.ensures
+    calls c.args.scenario.now (pooled c.args.arrivals.now.kept c.args.arrivals.now.places) c.in_ok-senders.senders.items c.requires.fits
+    c.requires.arrived.arrived c.in_ok-senders.ensures
 
 pub returns-clause-few : goal.returns-clause-few
 returns-clause-few c =

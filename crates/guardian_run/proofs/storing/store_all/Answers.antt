@@ -9,4 +9,5 @@ returns-clause-sent g c =
     let r = c.run_workers.result in
     sent c.args.scenario.now c.workers_leave_legal_lists.ensures j.shape j.room j.entries r.0.entries r.0.fault c.in-Ok.senders.items r.1.items c.requires.shape
     c.requires.room c.requires.once c.in-Ok.ensures.senders
-    (subst (λ x. HaveWorked x.shape x.room x.entries c.in-Ok.senders.items r.1.items r.0.entries r.0.fault) c.in-Ok-share.ensures.shared c.run_workers.ensures.worked)
+    (subst (λ x. HaveWorked x.shape x.room x.entries c.in-Ok.senders.items r.1.items r.0.entries r.0.fault) c.in-Ok-share.ensures.shared
+    c.run_workers.ensures.worked)

@@ -23,7 +23,8 @@ new-requires-clause-columns c =
 
 pub new-requires-clause-count : goal.new-requires-clause-count
 new-requires-clause-count c =
-    few_came c.args.scenario.now c.args.arrivals.now c.arrived-arrived.result.now c.args.at c.requires.fits.fits.few_packets c.requires.arrived c.requires.declared c.arrived-arrived.ensures
+    few_came c.args.scenario.now c.args.arrivals.now c.arrived-arrived.result.now c.args.at c.requires.fits.fits.few_packets c.requires.arrived
+    c.requires.declared c.arrived-arrived.ensures
 
 pub returns : goal.returns
 returns c =
@@ -35,7 +36,8 @@ returns c =
     let came = came_to w a c.arrived-arrived.result.now at c.requires.arrived c.requires.declared c.arrived-arrived.ensures in
     let packed : Matched IsPacked (items_at c.kept.result.now c.arrived-arrived.result.now) cs =
     subst (λ (ps : List Packed). Matched IsPacked (items_at ps c.arrived-arrived.result.now) cs) (sym c.kept.ensures) came.packed in
-    let is = host_read w at c.hosts.result.now host c.hosts.ensures.value (omega (arith, c.requires.declared, ap length c.hosts.ensures.value)) c.index-hosts-at.is in
+    let is = host_read w at c.hosts.result.now host c.hosts.ensures.value
+    (omega (arith, c.requires.declared, ap length c.hosts.ensures.value)) c.index-hosts-at.is in
     let uploads : c.in_ok-uploads.uploads ≡ numbered host.name (cut cs) = c.in_ok-uploads.ensures.value cs packed in
     let same : c.in_ok-uploads.uploads ≡ uploads_at w at = uploads ∙ ap (λ (x : HostLine). numbered x.name (cut cs)) (sym is) in
     IfOk-weaker c.over.result _ _ (λ u made.

@@ -14,7 +14,8 @@ conclude-told-requires-clause-met g c =
     let new = c.in-Ok.journal in
     let e = c.in-Ok.ensures in
     subst (AllCanBeMet new.fault) (sym c.deref.ensures.value)
-    (met c.args.scenario.now old new c.in-Ok.senders.items e.goes_on.shape e.sent (Rose (g.D.Disk.faults old.disk) (g.D.Disk.faults new.disk)) e.goes_on.rose c.requires.fits)
+    (met c.args.scenario.now old new c.in-Ok.senders.items e.goes_on.shape e.sent
+    (Rose (g.D.Disk.faults old.disk) (g.D.Disk.faults new.disk)) e.goes_on.rose c.requires.fits)
 
 pub returns-in-Ok-clause-told : goal.returns-in-Ok-clause-told
 returns-in-Ok-clause-told g c =
@@ -33,7 +34,8 @@ returns-in-Ok-clause-starved g c =
     let new = c.in-Ok.journal in
     let e = c.in-Ok.ensures in
     err_any c.conclude-told.result _
-    (starved c.args.scenario.now old new c.in-Ok.senders.items e.goes_on.shape e.sent (Rose (g.D.Disk.faults old.disk) (g.D.Disk.faults new.disk)) e.goes_on.rose)
+    (starved c.args.scenario.now old new c.in-Ok.senders.items e.goes_on.shape e.sent
+    (Rose (g.D.Disk.faults old.disk) (g.D.Disk.faults new.disk)) e.goes_on.rose)
 
 pub returns-in-Err-clause-starved : goal.returns-in-Err-clause-starved
 returns-in-Err-clause-starved g c =

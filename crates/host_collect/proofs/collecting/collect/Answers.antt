@@ -29,11 +29,13 @@ returns-in_err-upload c =
     let taken : c.loop-item.cutter.taken ≡ i =
     omega (arith, inv.2.taken, matched_length IsPacked (take i c.args.items.now) inv.0 inv.1, length-take i c.args.items.now, c.loop-item-test.true) in
     let p = err_from_is_err_and c.from_residual.result c.from_residual.ensures.1 in
-    rw (p.1, p.2) (refused c.args.items.now i c.loop-item.cutter.taken inv.0 c.in_err-upload.field-0.0 c.loop-item-test.true inv.1 taken c.in_err-upload.ensures.0)
+    rw (p.1, p.2) (refused c.args.items.now i c.loop-item.cutter.taken inv.0 c.in_err-upload.field-0.0 c.loop-item-test.true inv.1 taken
+    c.in_err-upload.ensures.0)
 
 pub loop-item-preserved : goal.loop-item-preserved
 loop-item-preserved c =
-    let more = kept_more c.args.host c.args.items.now c.loop-item.item-index c.loop-item.given.items c.loop-item.cutter c.push.new.self c.in_ok-upload.field-0 c.loop-item-test.true c.loop-item.invariant c.in_ok-upload.ensures in
+    let more = kept_more c.args.host c.args.items.now c.loop-item.item-index c.loop-item.given.items c.loop-item.cutter c.push.new.self
+    c.in_ok-upload.field-0 c.loop-item-test.true c.loop-item.invariant c.in_ok-upload.ensures in
     let kept = λ (given : List UploadData). Keeps c.args.host (take (c.loop-item.item-index + 1) c.args.items.now) given c.push.new.self in
     elim c.match-branch-2.branch [
       | in-Some+in_ok-push w ↦

@@ -67,7 +67,8 @@ whole c =
       | then-taken-gt0+in_ok-push-3 w ↦
           let ended : c.if-taken-gt0.ends.items ≡ ends ++ i ∷ [] =
           ap (λ (v : Vec ℕ). v.items) w.ends-is ∙ w.in_ok-push-3.ensures.items ∙ ap (λ (n : ℕ). ends ++ n ∷ []) c.loop-place.invariant.1 in
-          subst (λ es. Whole es cs) (sym ended) (finished cs i ends c.loop-place.held.items has all (omega (arith, c.loop-place.invariant.1, w.if-taken-gt0.true)))
+          subst (λ es. Whole es cs) (sym ended) (finished cs i ends c.loop-place.held.items has all
+          (omega (arith, c.loop-place.invariant.1, w.if-taken-gt0.true)))
       | else-taken-gt0 w ↦
           subst (λ es. Whole es cs) (sym (ap (λ (v : Vec ℕ). v.items) w.ends-is))
           (empty cs i ends c.loop-place.held.items has all (omega (arith, c.loop-place.invariant.1, w.if-taken-gt0.false)))

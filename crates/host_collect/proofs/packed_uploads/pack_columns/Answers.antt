@@ -22,7 +22,8 @@ pub returns-then-not-packs_at : goal.returns-then-not-packs_at
 returns-then-not-packs_at c = (
   λ no. absurd (search rules),
   λ is.
-      let yes : IsTrue c.packs_at.result = c.packs_at.ensures.1 (packs_there c.args.pool.now c.args.places.now c.loop-place.place-index 0 c.loop-place-test.true is) in
+      let yes : IsTrue c.packs_at.result = c.packs_at.ensures.1 (packs_there c.args.pool.now c.args.places.now c.loop-place.place-index 0
+      c.loop-place-test.true is) in
       subst IsTrue c.if-not-packs_at.true yes,
 )
 

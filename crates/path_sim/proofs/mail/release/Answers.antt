@@ -21,7 +21,8 @@ loop-item-preserved g c =
       held = (part.front, held_still stands stands' c.pop.new.self.items part.front step.stays part.before);
       hosts = step.hosts ∙ was.hosts;
       noted = λ w cs noted. step.noted w cs (was.noted w cs noted);
-      arrived = λ ds hs waits came. released_one stands stands' ds hs c.loop-item.held.items c.pop.new.self.items c.in-Some.item _ _ c.in-Some.ensures.items step.stays step.arrived (was.arrived ds hs waits came);
+      arrived = λ ds hs waits came. released_one stands stands' ds hs c.loop-item.held.items c.pop.new.self.items c.in-Some.item _ _
+          c.in-Some.ensures.items step.stays step.arrived (was.arrived ds hs waits came);
     }
 
 pub returns-clause-arrived : goal.returns-clause-arrived

@@ -18,7 +18,8 @@ returns-then-is_some g c =
           let now = counted g.P.Picker.picks g.O.Post w m c.requires.visit t _ c.index_mut-twin.result.now c.index_mut-twin.ensures.value
           (ap (λ (x : TwinsState). slice_set t.twins.items m.switch_at x) c.count.ensures) refl refl start ps c.args.cargo.now is in
           passed g.P.Picker.picks g.O.Post w m c.requires.visit _ start ps c.args.cargo.now now
-          (offer_no w (meeting_is m) now.carried (in_hand_if (g.O.Post.stands t.post) w now.carried m.number c.args.cargo.now (sym c.is_some.ensures ∙ c.if-is_some.true) now.cargo_is));
+          (offer_no w (meeting_is m) now.carried (in_hand_if (g.O.Post.stands t.post) w now.carried m.number c.args.cargo.now (sym c.is_some.ensures
+          ∙ c.if-is_some.true) now.cargo_is));
     }
 
 pub returns-then-epoch-eq0 : goal.returns-then-epoch-eq0
@@ -32,7 +33,8 @@ returns-then-epoch-eq0 g c =
           let now = counted g.P.Picker.picks g.O.Post w m c.requires.visit t _ c.index_mut-twin.result.now c.index_mut-twin.ensures.value
           (ap (λ (x : TwinsState). slice_set t.twins.items m.switch_at x) c.count.ensures) refl refl start ps c.args.cargo.now is in
           let none : ended w m.switch_at m.step_at ≡ 0 =
-          sym (epoch_is g.P.Picker.picks g.O.Post w m c.requires.visit t c.index_mut-twin.result.now c.index_mut-twin.ensures.value start ps c.args.cargo.now is)
+          sym (epoch_is g.P.Picker.picks g.O.Post w m c.requires.visit t c.index_mut-twin.result.now c.index_mut-twin.ensures.value start ps
+          c.args.cargo.now is)
           ∙ sym (ap (λ (x : TwinsState). x.epoch) c.count.ensures) ∙ sym c.epoch.ensures ∙ c.if-epoch-eq0.true in
           passed g.P.Picker.picks g.O.Post w m c.requires.visit _ start ps c.args.cargo.now now (offer_early w (meeting_is m) now.carried none);
     }
@@ -44,7 +46,8 @@ offer-requires-clause-epoch g c =
     let t = c.args.traffic.now in
     let same : c.epoch.result ≡ ended w m.switch_at m.step_at =
     c.epoch.ensures ∙ ap (λ (x : TwinsState). x.epoch) c.count.ensures
-    ∙ epoch_is g.P.Picker.picks g.O.Post w m c.requires.visit t c.index_mut-twin.result.now c.index_mut-twin.ensures.value c.requires.run.0 c.args.pickers.now c.args.cargo.now c.requires.run.1 in
+    ∙ epoch_is g.P.Picker.picks g.O.Post w m c.requires.visit t c.index_mut-twin.result.now c.index_mut-twin.ensures.value c.requires.run.0
+    c.args.pickers.now c.args.cargo.now c.requires.run.1 in
     omega (arith, same, c.if-epoch-eq0.false)
 
 pub offer-requires-clause-run : goal.offer-requires-clause-run
@@ -53,7 +56,8 @@ offer-requires-clause-run g c =
     let t = c.args.traffic.now in (
       c.requires.run.0,
       counted g.P.Picker.picks g.O.Post c.args.scenario.now m c.requires.visit t _ c.index_mut-twin.result.now c.index_mut-twin.ensures.value
-          (ap (λ (x : TwinsState). slice_set t.twins.items m.switch_at x) c.count.ensures) refl refl c.requires.run.0 c.args.pickers.now c.args.cargo.now c.requires.run.1,
+          (ap (λ (x : TwinsState). slice_set t.twins.items m.switch_at x) c.count.ensures) refl refl c.requires.run.0 c.args.pickers.now
+          c.args.cargo.now c.requires.run.1,
     )
 
 pub returns : goal.returns
@@ -63,5 +67,6 @@ returns g c =
     record {
       run = IfOk-weaker c.offer.result _ _ (λ x goes start is. goes start
           (counted g.P.Picker.picks g.O.Post c.args.scenario.now m c.requires.visit t _ c.index_mut-twin.result.now c.index_mut-twin.ensures.value
-          (ap (λ (x : TwinsState). slice_set t.twins.items m.switch_at x) c.count.ensures) refl refl start c.args.pickers.now c.args.cargo.now is)) c.offer.ensures.run;
+          (ap (λ (x : TwinsState). slice_set t.twins.items m.switch_at x) c.count.ensures) refl refl start c.args.pickers.now c.args.cargo.now is))
+          c.offer.ensures.run;
     }

@@ -21,7 +21,8 @@ returns-in-None g c =
       lawful = c.in-None.ensures.lawful;
     } in
     record {
-      run = λ start is. subst (IsRun g.P.Picker.picks g.O.Post w (at_hops w m.step_at m.number m.hop m.hop) start (slice_set ps m.switch_at c.pick.new.self) t) (sym c.requires.empty)
+      run = λ start is. subst (IsRun g.P.Picker.picks g.O.Post w (at_hops w m.step_at m.number m.hop m.hop) start
+          (slice_set ps m.switch_at c.pick.new.self) t) (sym c.requires.empty)
           (declined g.P.Picker.picks g.O.Post w m c.requires.visit t ps c.index-twin.result.now p c.pick.new.self a start
           (emptied g.P.Picker.picks g.O.Post w m c.requires.visit t ps c.args.cargo.now c.requires.empty start is));
     }
@@ -43,7 +44,9 @@ returns-in_ok-taken-in-Some g c =
     } in
     let step = c.in_ok-taken-in-Some.ensures in
     record {
-      run = λ start is. taken g.P.Picker.picks g.O.Post w m c.requires.visit t _ ps c.index-twin.result.now p c.pick.new.self c.in-Some.index c.epoch.result c.in_ok-taken-in-Some.taken a c.epoch.ensures
-          step.noted step.taken step.stays step.inboxes c.index_mut-twin.result.now c.index_mut-twin.ensures.value (ap (λ (x : TwinsState). slice_set t.twins.items m.switch_at x) c.put_out.ensures) refl start
+      run = λ start is. taken g.P.Picker.picks g.O.Post w m c.requires.visit t _ ps c.index-twin.result.now p c.pick.new.self c.in-Some.index
+          c.epoch.result c.in_ok-taken-in-Some.taken a c.epoch.ensures
+          step.noted step.taken step.stays step.inboxes c.index_mut-twin.result.now c.index_mut-twin.ensures.value
+          (ap (λ (x : TwinsState). slice_set t.twins.items m.switch_at x) c.put_out.ensures) refl start
           (emptied g.P.Picker.picks g.O.Post w m c.requires.visit t ps c.args.cargo.now c.requires.empty start is);
     }

@@ -14,19 +14,23 @@ pub returns-clause-picked : goal.returns-clause-picked
 returns-clause-picked c =
     let w = c.args.scenario.now in
     let known = c.in_ok-pickers.ensures in
-    IfOk-weaker c.run_net.result _ _ (λ a run. own_picked w c.deref_mut.result.now (offering c.run_net.new.pickers (carried_are a.carried)) known.fits (c.deref_mut.ensures.value ∙ known.fresh) run) c.run_net.ensures.picks
+    IfOk-weaker c.run_net.result _ _ (λ a run. own_picked w c.deref_mut.result.now (offering c.run_net.new.pickers (carried_are a.carried)) known.fits
+    (c.deref_mut.ensures.value ∙ known.fresh) run) c.run_net.ensures.picks
 
 pub returns-clause-allowed : goal.returns-clause-allowed
 returns-clause-allowed c =
     let w = c.args.scenario.now in
-    with_picked c.run_net.result (λ (a : Outcome). carried_are a.carried) (picked w) (λ a cs. IsAllowed w cs) (returns-clause-picked c) c.run_net.ensures.allowed
+    with_picked c.run_net.result (λ (a : Outcome). carried_are a.carried) (picked w) (λ a cs. IsAllowed w cs)
+    (returns-clause-picked c) c.run_net.ensures.allowed
 
 pub returns-clause-arrived : goal.returns-clause-arrived
 returns-clause-arrived c =
     let w = c.args.scenario.now in
-    with_picked c.run_net.result (λ (a : Outcome). carried_are a.carried) (picked w) (λ a cs. HaveArrived w cs a.inboxes) (returns-clause-picked c) c.run_net.ensures.arrived
+    with_picked c.run_net.result (λ (a : Outcome). carried_are a.carried) (picked w) (λ a cs. HaveArrived w cs a.inboxes)
+    (returns-clause-picked c) c.run_net.ensures.arrived
 
 pub returns-clause-twins : goal.returns-clause-twins
 returns-clause-twins c =
     let w = c.args.scenario.now in
-    with_picked c.run_net.result (λ (a : Outcome). carried_are a.carried) (picked w) (λ a cs. AreTwins w (length w.steps) (meetings w) cs a.twins) (returns-clause-picked c) c.run_net.ensures.twins
+    with_picked c.run_net.result (λ (a : Outcome). carried_are a.carried) (picked w) (λ a cs. AreTwins w (length w.steps) (meetings w) cs a.twins)
+    (returns-clause-picked c) c.run_net.ensures.twins

@@ -4,8 +4,11 @@ use Rattle.path_sim.proofs.Ends.{started, run_all}
 use Rattle.path_sim.proofs.running.run_over.Goals as goal
 
 pub run_steps-requires-clause-run : goal.run_steps-requires-clause-run
-run_steps-requires-clause-run g c =
-    (offering c.args.pickers.now [], started g.P.Picker.picks g.O.Post c.args.scenario.now c.args.pickers.now _ c.in_ok-fresh_twins.ensures c.requires.fresh c.new.ensures.items)
+run_steps-requires-clause-run g c = (
+  offering c.args.pickers.now [],
+  started g.P.Picker.picks g.O.Post c.args.scenario.now c.args.pickers.now _ c.in_ok-fresh_twins.ensures
+      c.requires.fresh c.new.ensures.items,
+)
 
 pub release-requires-clause-inside : goal.release-requires-clause-inside
 release-requires-clause-inside g c =
@@ -22,5 +25,6 @@ pub returns : goal.returns
 returns g c =
     let start = started g.P.Picker.picks g.O.Post c.args.scenario.now c.args.pickers.now _ c.in_ok-fresh_twins.ensures c.requires.fresh c.new.ensures.items in
     let gone = c.in_ok-release.ensures in
-    run_all g.P.Picker.picks g.O.Post c.args.scenario.now c.args.pickers.now c.run_steps.new.pickers c.run_steps.new.traffic _ (c.in_ok-run_steps.ensures.run (offering c.args.pickers.now []) start) refl
+    run_all g.P.Picker.picks g.O.Post c.args.scenario.now c.args.pickers.now c.run_steps.new.pickers c.run_steps.new.traffic _
+    (c.in_ok-run_steps.ensures.run (offering c.args.pickers.now []) start) refl
     gone.hosts gone.noted gone.arrived

@@ -19,7 +19,17 @@ meet-requires-clause-visit g c =
     let hops : List ℕ = c.items-hops.result.now in
     let waits : List ℕ = c.items-delays.result.now in
     let at : ℕ = c.from-at.result in
-    let m : Meeting = record { number = n; step_at = sent.step_at; hop = k + 1; hops = length hops; switch_at = slice_index hops at; key = sent.flow.now.key; size = sent.size; delay = slice_index waits at } in
+    let m : Meeting = record {
+      number = n;
+      step_at = sent.step_at;
+      hop = k + 1;
+      hops = length hops;
+      switch_at = slice_index hops at;
+      key =
+          sent.flow.now.key;
+      size = sent.size;
+      delay = slice_index waits at;
+    } in
     let is : m ≡ meeting_of n p (k, slice_index p.flow.path k) = λ i. record {
       number = n;
       step_at = sent.step_at;
@@ -50,7 +60,8 @@ meet-requires-clause-visit g c =
 pub loop-k-preserved : goal.loop-k-preserved
 loop-k-preserved g c = λ start is.
     let back : (c.loop-k.k + 1) - 1 ≡ c.loop-k.k = omega arith in
-    c.in_ok-meet.ensures.run start (subst (λ (a : ℕ). IsRun g.P.Picker.picks g.O.Post c.args.scenario.now (at_hops c.args.scenario.now c.args.sent.now.step_at c.args.number a a) start c.loop-k.pickers c.loop-k.traffic c.loop-k.cargo)
+    c.in_ok-meet.ensures.run start (subst (λ (a : ℕ). IsRun g.P.Picker.picks g.O.Post c.args.scenario.now
+    (at_hops c.args.scenario.now c.args.sent.now.step_at c.args.number a a) start c.loop-k.pickers c.loop-k.traffic c.loop-k.cargo)
     (sym back) (c.loop-k.invariant start is))
 
 pub returns : goal.returns
@@ -63,8 +74,10 @@ returns g c =
     let r : sent.reached ≡ reach (packet_at w n) = its.fits.reached_is ∙ ap reach (sym its.packet) in
     let inside : reach (packet_at w n) ≤ length (packet_at w n).flow.path =
     subst (λ (p : Packet). reach p ≤ length p.flow.path) (sym its.packet) (omega (arith, its.fits.reached_is, its.fits.reach)) in
-    let all : k ≡ length (meetings_of (n, packet_at w n)) = omega (arith, c.loop-k-test.false, c.loop-k.auto.k-end, r, length_meetings n (packet_at w n) inside) in
+    let all : k ≡ length (meetings_of (n, packet_at w n)) = omega
+    (arith, c.loop-k-test.false, c.loop-k.auto.k-end, r, length_meetings n (packet_at w n) inside) in
     record {
-      run = λ start is. subst (λ (ms : List Meeting). IsRun g.P.Picker.picks g.O.Post w (record { step = sent.step_at; number = n; counted = ms; offered = ms }) start c.loop-k.pickers c.loop-k.traffic c.loop-k.cargo)
+      run = λ start is. subst (λ (ms : List Meeting). IsRun g.P.Picker.picks g.O.Post w
+          (record { step = sent.step_at; number = n; counted = ms; offered = ms }) start c.loop-k.pickers c.loop-k.traffic c.loop-k.cargo)
           (meetings_to_end w n k its.number all) (c.loop-k.invariant start is);
     }

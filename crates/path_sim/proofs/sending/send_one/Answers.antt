@@ -9,6 +9,7 @@ pub returns : goal.returns
 returns g c = record {
   run = both_ok c.settle.result _ _ _ (λ x mail twins start was.
       let is = c.in_ok-cargo.ensures.run start was in
-      next_packet g.P.Picker.picks g.O.Post c.args.scenario.now c.args.sent.now.step_at c.args.number c.send.new.traffic c.settle.new.traffic c.in_ok-cargo.cargo start c.send.new.pickers twins is
+      next_packet g.P.Picker.picks g.O.Post c.args.scenario.now c.args.sent.now.step_at c.args.number c.send.new.traffic c.settle.new.traffic
+      c.in_ok-cargo.cargo start c.send.new.pickers twins is
       (mail is.carried is.mail is.cargo_is)) c.settle.ensures.mail c.settle.ensures.twins;
 }

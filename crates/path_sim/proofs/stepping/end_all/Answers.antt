@@ -10,4 +10,5 @@ returns c =
     let d : TwinsState = new_twins (record { rows = 0; width = 0; hash = Ports }) in
     let long : length c.loop-s.twins ≡ length ts = c.loop-s.auto.twins in
     ext_get_or d c.loop-s.twins (map with_end ts) (long ∙ sym (length-map ts with_end))
-    (λ k h. let low : k < length ts = omega (arith, long) in c.loop-s.invariant.done k d (omega (arith, long, c.loop-s-test.false)) ∙ sym (get_or-map with_end ts k d d low))
+    (λ k h. let low : k < length ts = omega (arith, long) in c.loop-s.invariant.done k d (omega (arith, long, c.loop-s-test.false))
+    ∙ sym (get_or-map with_end ts k d d low))

@@ -7,7 +7,8 @@ pub returns-clause-number : goal.returns-clause-number
 returns-clause-number g c =
     let s = c.args.sent.now in
     let step = c.requires.step in
-    ap (λ (k : ℕ). k + s.burst) c.requires.number ∙ sym (number_more c.args.scenario.now s.step_at step.flow_at s.size s.delays.now s.burst s.fate step.inside step.step)
+    ap (λ (k : ℕ). k + s.burst) c.requires.number ∙ sym (number_more c.args.scenario.now s.step_at step.flow_at s.size s.delays.now s.burst s.fate
+    step.inside step.step)
 
 pub returns-clause-few : goal.returns-clause-few
 returns-clause-few g c =
@@ -31,4 +32,5 @@ returns-clause-run g c =
     let w = c.args.scenario.now in
     let s = c.args.sent.now in
     IfOk-weaker c.send_all.result _ _ (λ x goes start is.
-    sent_step g.P.Picker.picks g.O.Post w s.step_at (c.args.number + s.burst) c.requires.step.inside s c.send_all.new.traffic start c.send_all.new.pickers c.requires.step refl (returns-clause-number g c) (goes start is)) c.send_all.ensures.run
+    sent_step g.P.Picker.picks g.O.Post w s.step_at (c.args.number + s.burst) c.requires.step.inside s c.send_all.new.traffic start
+    c.send_all.new.pickers c.requires.step refl (returns-clause-number g c) (goes start is)) c.send_all.ensures.run

@@ -19,7 +19,8 @@ invariant_of-result c =
     record {
       columns = c.requires.columns;
       within = c.in_ok-ends.ensures.ends;
-      full = subst (AllByRecursion IsFull) (sym (c.in_ok-ends.ensures.cut c.args.host)) (whole c.args.host (items_at pool places) cs c.ranges.host.fits few c.requires.columns.packed);
+      full = subst (AllByRecursion IsFull) (sym (c.in_ok-ends.ensures.cut c.args.host))
+          (whole c.args.host (items_at pool places) cs c.ranges.host.fits few c.requires.columns.packed);
     }
 
 pub returns-clause-value : goal.returns-clause-value

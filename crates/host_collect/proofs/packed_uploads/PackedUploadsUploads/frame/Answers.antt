@@ -51,32 +51,38 @@ range_of-from-requires c =
 pub overflow_cast-at : goal.overflow_cast-at
 overflow_cast-at c =
     let u = c.self.inside in
-    let is = range c.self.inside c.args.self.now c.deref.result.now c.args.at _ _ c.self.view_is c.requires c.self.invariant c.deref.ensures.value c.range_of-from.ensures.from c.range_of-from.ensures.to in
+    let is = range c.self.inside c.args.self.now c.deref.result.now c.args.at _ _ c.self.view_is c.requires c.self.invariant c.deref.ensures.value
+    c.range_of-from.ensures.from c.range_of-from.ensures.to in
     let cs = columns_at u.pool.now u.places.now in
     record { fits = small u.host (pieces 0 u.ends.items cs) c.args.at c.self.invariant.full (omega (arith, is.low, pieces_len 0 u.ends.items cs)) }
 
 pub offset_bounds-self-inside-from : goal.offset_bounds-self-inside-from
 offset_bounds-self-inside-from c =
-    let is = range c.self.inside c.args.self.now c.deref.result.now c.args.at _ _ c.self.view_is c.requires c.self.invariant c.deref.ensures.value c.range_of-from.ensures.from c.range_of-from.ensures.to in
+    let is = range c.self.inside c.args.self.now c.deref.result.now c.args.at _ _ c.self.view_is c.requires c.self.invariant c.deref.ensures.value
+    c.range_of-from.ensures.from c.range_of-from.ensures.to in
     record { fits = omega (arith, is.ordered, is.inside, c.self.told2.1) }
 
 pub slice_bounds-write_packed-count : goal.slice_bounds-write_packed-count
-slice_bounds-write_packed-count c = let is = range c.self.inside c.args.self.now c.deref.result.now c.args.at _ _ c.self.view_is c.requires c.self.invariant c.deref.ensures.value c.range_of-from.ensures.from c.range_of-from.ensures.to in is.ordered
+slice_bounds-write_packed-count c = let is = range c.self.inside c.args.self.now c.deref.result.now c.args.at _ _ c.self.view_is c.requires
+    c.self.invariant c.deref.ensures.value c.range_of-from.ensures.from c.range_of-from.ensures.to in is.ordered
 
 pub slice_bounds-write_packed-start : goal.slice_bounds-write_packed-start
 slice_bounds-write_packed-start c =
-    let is = range c.self.inside c.args.self.now c.deref.result.now c.args.at _ _ c.self.view_is c.requires c.self.invariant c.deref.ensures.value c.range_of-from.ensures.from c.range_of-from.ensures.to in
+    let is = range c.self.inside c.args.self.now c.deref.result.now c.args.at _ _ c.self.view_is c.requires c.self.invariant c.deref.ensures.value
+    c.range_of-from.ensures.from c.range_of-from.ensures.to in
     let ordered : c.range_of-from.result.0 ≤ c.range_of-from.result.1 = is.ordered in search rules
 
 pub slice_bounds-write_packed-end : goal.slice_bounds-write_packed-end
 slice_bounds-write_packed-end c =
-    let is = range c.self.inside c.args.self.now c.deref.result.now c.args.at _ _ c.self.view_is c.requires c.self.invariant c.deref.ensures.value c.range_of-from.ensures.from c.range_of-from.ensures.to in
+    let is = range c.self.inside c.args.self.now c.deref.result.now c.args.at _ _ c.self.view_is c.requires c.self.invariant c.deref.ensures.value
+    c.range_of-from.ensures.from c.range_of-from.ensures.to in
     let ordered : c.range_of-from.result.0 ≤ c.range_of-from.result.1 = is.ordered in
     let inside : c.range_of-from.result.1 ≤ length c.self.inside.places.now = is.inside in search rules
 
 pub write_packed-requires-clause-count : goal.write_packed-requires-clause-count
 write_packed-requires-clause-count c =
-    let is = range c.self.inside c.args.self.now c.deref.result.now c.args.at _ _ c.self.view_is c.requires c.self.invariant c.deref.ensures.value c.range_of-from.ensures.from c.range_of-from.ensures.to in
+    let is = range c.self.inside c.args.self.now c.deref.result.now c.args.at _ _ c.self.view_is c.requires c.self.invariant c.deref.ensures.value
+    c.range_of-from.ensures.from c.range_of-from.ensures.to in
     let from = c.range_of-from.result.0 in
     let to = c.range_of-from.result.1 in
     omega (arith, is.few, length-take (to - from) (drop from c.self.inside.places.now))
@@ -84,14 +90,18 @@ write_packed-requires-clause-count c =
 pub returns : goal.returns
 returns c =
     let u = c.self.inside in
-    let is = range c.self.inside c.args.self.now c.deref.result.now c.args.at _ _ c.self.view_is c.requires c.self.invariant c.deref.ensures.value c.range_of-from.ensures.from c.range_of-from.ensures.to in
+    let is = range c.self.inside c.args.self.now c.deref.result.now c.args.at _ _ c.self.view_is c.requires c.self.invariant c.deref.ensures.value
+    c.range_of-from.ensures.from c.range_of-from.ensures.to in
     let from = c.range_of-from.result.0 in
     let to = c.range_of-from.result.1 in
     let cs : List Column = columns_at u.pool.now u.places.now in
     let all = between u.pool.now u.places.now from (to - from) c.self.invariant.columns in
-    let same : take (to - from) (drop from cs) ≡ take (slice_index_or u.ends.items c.args.at 0 - start_of 0 u.ends.items c.args.at) (drop (start_of 0 u.ends.items c.args.at) cs) =
-    ap (λ (n : ℕ). take (to - n) (drop n cs)) is.from_is ∙ ap (λ (n : ℕ). take (n - start_of 0 u.ends.items c.args.at) (drop (start_of 0 u.ends.items c.args.at) cs)) is.to_is in
+    let same : take (to - from) (drop from cs) ≡ take (slice_index_or u.ends.items c.args.at 0 - start_of 0 u.ends.items c.args.at)
+    (drop (start_of 0 u.ends.items c.args.at) cs) =
+    ap (λ (n : ℕ). take (to - n) (drop n cs)) is.from_is ∙ ap (λ (n : ℕ). take (n - start_of 0 u.ends.items c.args.at)
+    (drop (start_of 0 u.ends.items c.args.at) cs)) is.to_is in
     IfOk-weaker c.write_packed.result _ _ (λ bytes wrote v here.
     wrote (take (to - from) (drop from cs)) all
     ∙ ap (λ (xs : List Column). frame_of (upload_of u.host c.args.at xs)) same
-    ∙ ap frame_of (sym (upload_is u.host u.ends.items cs c.args.at v is.low (ap (λ us. Rattle.std.specs.List.slice_get us c.args.at) c.self.view_is ∙ here)))) c.write_packed.ensures
+    ∙ ap frame_of (sym (upload_is u.host u.ends.items cs c.args.at v is.low (ap (λ us. Rattle.std.specs.List.slice_get us c.args.at) c.self.view_is
+    ∙ here)))) c.write_packed.ensures
