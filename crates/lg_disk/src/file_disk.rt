@@ -6,8 +6,9 @@ use crate::disk::Disk;
 use lg_base::{Failed, Faults};
 use std::fs::{OpenFile, OpenOptions};
 use std::io;
-use std::io::{ErrorKind, Read, Seek, SeekFrom, Write};
+use std::io::ErrorKind;
 use std::marker::Model;
+use std::os::unix::fs::FileExt;
 use std::rt::Files;
 
 /// A disk over the file of a name. It is opened at the first call and stays open. Where it isn't there it is empty, and
@@ -58,11 +59,10 @@ fn sync_folder<F: Files>(files: &F, name: &str) -> io::Result<()> {
 }
 
 // Reads from that place on until the buffer is full or the file ends.
-fn read_from<F: Read + Seek + OpenFile>(file: &mut F, at: u64, buf: &mut [u8]) -> io::Result<usize>
+fn read_from<F: FileExt + OpenFile>(file: &F, at: u64, buf: &mut [u8]) -> io::Result<usize>
     ensures { IfOk result (λ n. n ≤ length buf.old) }
 {
-    file.seek(SeekFrom::Start(at))?;
-    let count = match file.read(buf) {
+    let count = match file.read_at(buf, at) {
         Ok(count) => count,
         Err(error) if error.kind() == ErrorKind::Interrupted => 0,
         Err(error) => return Err(error),
@@ -73,7 +73,7 @@ fn read_from<F: Read + Seek + OpenFile>(file: &mut F, at: u64, buf: &mut [u8]) -
     let rest = file.metadata()?.len().saturating_sub(at);
     let want = rest.min(buf.len() as u64) as usize;
     if count < want {
-        file.read_exact(&mut buf[count..want])?;
+        file.read_exact_at(&mut buf[count..want], at.saturating_add(count as u64))?;
         return Ok(want);
     }
     Ok(count)
@@ -87,7 +87,10 @@ fn cut_to<F: OpenFile>(file: &F, len: u64) -> io::Result<()> {
     Ok(())
 }
 
-impl<'a, F: Files> FileDisk<'a, F> {
+impl<'a, F: Files> FileDisk<'a, F>
+where
+    F::File: FileExt,
+{
     /// A disk over the file of that name, with no fault yet. Opens nothing and takes no memory.
     pub fn at(files: &'a F, name: &'a str) -> FileDisk<'a, F>
         ensures { result ≡ record { name = name.now; faults = 0 } }
@@ -141,12 +144,12 @@ impl<'a, F: Files> FileDisk<'a, F> {
         ensures fits { IfOk result (λ n. n ≤ length buf.old) }
         ensures faults { self.new ≡ self.old }
     {
-        // No file reaches there, and no call can seek there.
+        // No file reaches there, and no call can read there.
         if at > i64::MAX as u64 {
             return Ok(0);
         }
         self.open()?;
-        match &mut self.file {
+        match &self.file {
             None => Ok(0),
             Some(file) => read_from(file, at, buf),
         }
@@ -156,12 +159,9 @@ impl<'a, F: Files> FileDisk<'a, F> {
         ensures { self.new ≡ self.old }
     {
         self.make()?;
-        match &mut self.file {
+        match &self.file {
             None => Err(io::Error::from(ErrorKind::NotFound)),
-            Some(file) => {
-                file.seek(SeekFrom::Start(at))?;
-                file.write_all(bytes)
-            }
+            Some(file) => file.write_all_at(bytes, at),
         }
     }
 
@@ -202,7 +202,10 @@ impl<'a, F: Files> FileDisk<'a, F> {
     }
 }
 
-impl<'a, F: Files> Disk for FileDisk<'a, F> {
+impl<'a, F: Files> Disk for FileDisk<'a, F>
+where
+    F::File: FileExt,
+{
     ghost honest = { λ d. ⊥ };
 
     ghost seen = { λ d. [] };
