@@ -8,6 +8,7 @@ use lg_disk::FileDisk;
 use lg_model::Hash;
 use report_text::put_column_line;
 use std::alloc::Global;
+use std::os::unix::fs::FileExt;
 use std::rt::Files;
 
 // The journal of the file of that name.
@@ -15,7 +16,10 @@ fn open<'a, F: Files>(
     files: &'a F,
     alloc: Global,
     name: &'a str,
-) -> Option<Journal<FileDisk<'a, F>>> {
+) -> Option<Journal<FileDisk<'a, F>>>
+where
+    F::File: FileExt,
+{
     let shape = Shape::new(8, 4096, Hash::Ports)?;
     let Ok(journal) = Journal::open(alloc, FileDisk::at(files, name), &shape, ROOM) else {
         return None;
@@ -32,7 +36,10 @@ fn counted(sum: u64, book: &Book) -> u64 {
 }
 
 /// Opens the file as a journal, so many times.
-pub(crate) fn opened<F: Files>(files: &F, alloc: Global, name: &str, times: u32) -> Option<u64> {
+pub(crate) fn opened<F: Files>(files: &F, alloc: Global, name: &str, times: u32) -> Option<u64>
+where
+    F::File: FileExt,
+{
     let mut sum = 0;
     for _ in 0..times {
         let journal = open(files, alloc, name)?;
@@ -42,7 +49,10 @@ pub(crate) fn opened<F: Files>(files: &F, alloc: Global, name: &str, times: u32)
 }
 
 /// Looks at the file, so many times.
-pub(crate) fn looked<F: Files>(files: &F, alloc: Global, name: &str, times: u32) -> Option<u64> {
+pub(crate) fn looked<F: Files>(files: &F, alloc: Global, name: &str, times: u32) -> Option<u64>
+where
+    F::File: FileExt,
+{
     let mut sum = 0;
     for _ in 0..times {
         let mut disk = FileDisk::at(files, name);
@@ -76,7 +86,10 @@ fn first_lines(alloc: Global, book: &Book) -> Option<u64> {
 }
 
 /// Makes the lines of all columns of the file, once to take in their bytes, and then so many times.
-pub(crate) fn lined<F: Files>(files: &F, alloc: Global, name: &str, times: u32) -> Option<u64> {
+pub(crate) fn lined<F: Files>(files: &F, alloc: Global, name: &str, times: u32) -> Option<u64>
+where
+    F::File: FileExt,
+{
     let journal = open(files, alloc, name)?;
     let mut sum = first_lines(alloc, journal.book())?;
     for _ in 0..times {
@@ -86,7 +99,10 @@ pub(crate) fn lined<F: Files>(files: &F, alloc: Global, name: &str, times: u32) 
 }
 
 /// Opens the file and makes the lines of all its columns, once to take in their bytes, and then so many times.
-pub(crate) fn listed<F: Files>(files: &F, alloc: Global, name: &str, times: u32) -> Option<u64> {
+pub(crate) fn listed<F: Files>(files: &F, alloc: Global, name: &str, times: u32) -> Option<u64>
+where
+    F::File: FileExt,
+{
     let mut sum = first_lines(alloc, open(files, alloc, name)?.book())?;
     for _ in 0..times {
         let journal = open(files, alloc, name)?;
@@ -96,7 +112,10 @@ pub(crate) fn listed<F: Files>(files: &F, alloc: Global, name: &str, times: u32)
 }
 
 /// Applies so many uploads of 16 new columns to the journal of the file.
-pub(crate) fn journaled<F: Files>(files: &F, alloc: Global, name: &str, count: u32) -> Option<u64> {
+pub(crate) fn journaled<F: Files>(files: &F, alloc: Global, name: &str, count: u32) -> Option<u64>
+where
+    F::File: FileExt,
+{
     let mut journal = open(files, alloc, name)?;
     for seq in 0..count {
         let Ok(Applied::Stored(_)) = journal.apply(0, &upload(alloc, Order::Near, seq)?) else {

@@ -37,6 +37,7 @@ use crate::frames::sent;
 use crate::locks::{applied, shared};
 use lg_disk::FileDisk;
 use std::alloc::Global;
+use std::os::unix::fs::FileExt;
 use std::process::ExitCode;
 use std::rt::{Env, Files};
 use std::sync::Wait;
@@ -76,7 +77,10 @@ fn of_book(alloc: Global, part: &str, order: &str, count: &str, times: &str) -> 
 }
 
 // What a part of the disk comes to.
-fn of_disk<F: Files>(files: &F, part: &str, name: &str, count: &str) -> Option<u64> {
+fn of_disk<F: Files>(files: &F, part: &str, name: &str, count: &str) -> Option<u64>
+where
+    F::File: FileExt,
+{
     let count = number(count)?;
     let mut disk = FileDisk::at(files, name);
     if part == "read" {
@@ -89,7 +93,10 @@ fn of_disk<F: Files>(files: &F, part: &str, name: &str, count: &str) -> Option<u
 }
 
 // What a part of the book's file comes to.
-fn of_file<F: Files>(files: &F, alloc: Global, part: &str, name: &str, count: &str) -> Option<u64> {
+fn of_file<F: Files>(files: &F, alloc: Global, part: &str, name: &str, count: &str) -> Option<u64>
+where
+    F::File: FileExt,
+{
     let count = number(count)?;
     if part == "open" {
         opened(files, alloc, name, count)
@@ -119,7 +126,10 @@ fn of_count(alloc: Global, part: &str, count: &str) -> Option<u64> {
 }
 
 // What the part of these words comes to.
-fn done<R: Files + Threads + Wait + Sync>(rt: &R, alloc: Global, words: &[String]) -> Option<u64> {
+fn done<R: Files + Threads + Wait + Sync>(rt: &R, alloc: Global, words: &[String]) -> Option<u64>
+where
+    R::File: FileExt,
+{
     match words {
         [part, count] => of_count(alloc, part, count),
         [part, name, count] => {
