@@ -1,3 +1,4 @@
 pub mod Appending
+pub mod Growing
 pub mod Words
 pub mod Shapes

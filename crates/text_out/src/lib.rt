@@ -8,10 +8,12 @@
 //! Each answers `Memory` where memory runs out, and then what stood before still stands at the front of the list.
 #![tactic(auto, using(crate::proofs::Keeping::keeps_itself, crate::proofs::Keeping::keeps_after))]
 
+mod growing;
 mod put;
 mod shape;
 #[cfg(test)]
 mod tests;
 
+pub use growing::{Room, TextOut};
 pub use put::{put_field, put_number, put_text};
 pub use shape::put_shape;
