@@ -35,7 +35,7 @@ use Rattle.book_laws.proofs.Legal.{legal_once, found_from}
 
 -- there is one frozen column of a key
 one_frozen : (w : Scenario) (k : Key) (v u : Cells) → IsWhole w → IsFrozen w k v → IsFrozen w k u → v ≡ u
-one_frozen w k v u whole a b = cells_at w k v b.switch_at whole.lines.own_switches a b.switch ∙ sym b.same
+one_frozen w k v u whole a b = cells_at w k v b.switch_at whole.scenario.switches.own a b.switch ∙ sym b.same
 
 module _ (order : Order) (w : Scenario) (before more : List UploadData) (legal : AreLegalNext order w before more) (h q : ℕ)
     (declared : h < length w.hosts) (sent : q < length (uploads_at w h)) where

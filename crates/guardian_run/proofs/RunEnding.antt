@@ -66,7 +66,7 @@ module _ (w : Scenario) (whole : IsWhole w) where
       let some = some_found (brought_to_all w (picked w)) c has in
       let mine : IsFrozen w c.key c.cells = (All-contains (IsFrozenColumn w) (brought_to_all w (picked w)) c t.frozen has).is in
       let there : IsFrozen w c.key some.0 = of_if (found (book_of w) c.key) (IsFrozen w c.key) some.0 (t.agrees c.key) some.1 in
-      let same : c.cells ≡ some.0 = cells_at w c.key c.cells there.switch_at whole.lines.own_switches mine there.switch ∙ sym there.same in
+      let same : c.cells ≡ some.0 = cells_at w c.key c.cells there.switch_at whole.scenario.switches.own mine there.switch ∙ sym there.same in
       some.1 ∙ ap (λ (v : Cells). Some v) (sym same)
 
   no_clash : (before : List UploadData) (key : Key) (kept came : Column) → AreJoinable (content_in before) (book_of w) → IsClash w before key kept came → ⊥

@@ -79,7 +79,7 @@ few_at w inboxes h fits arrived low =
     let few = few_uploads w h in
     let same = matched_length IsPacked (slice_index_or inboxes h []) (brought w (picked w) h) (arrived.each h inside) in
     let most = arrived.few h inside in
-    let packets : packet_count w.steps ≤ 1000000 = fits.fits.few_packets in
+    let packets : packet_count w.steps ≤ 1000000 = fits.scenario.steps.few_packets in
     omega (arith, few, same, most, packets)
 
 pub senders_count : (w : Scenario) (n : ℕ) (ss : List Sender) → AreSenders w n ss → length ss ≡ n
@@ -123,7 +123,7 @@ calls w inboxes ss fits arrived are = λ h s inside.
     let uploads = ap (λ (p : UploaderState × List Letter). length p.0.uploads) is in
     let letters = ap (λ (p : UploaderState × List Letter). length p.1) is in
     let most = few_at w inboxes h fits arrived low in
-    let few_letters : length (host_at w h).letters ≤ 4096 = (fits.lines.hosts h no_host low).few_letters in
+    let few_letters : length (host_at w h).letters ≤ 4096 = (fits.scenario.hosts.each h no_host low).few_letters in
     record {
       calls = omega (arith, uploads, letters, most, few_letters);
       none = ap (λ (p : UploaderState × List Letter). refusals p.0.states) is ∙ none_refused (length (uploads_at w h));

@@ -1,3 +1,4 @@
+pub mod EachLemmas
 pub mod Keys
 pub mod Maps
 pub mod Raising

@@ -1,5 +1,7 @@
 pub mod Placing
 pub mod Scenario
+pub mod Ranges
+pub mod Keeping
 pub mod Matching
 pub mod Trace
 pub mod Columns

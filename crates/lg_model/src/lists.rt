@@ -2,6 +2,7 @@
 ghost use Rattle.std.specs.Prelude.{◌≡◌};
 
 use crate::scenario::Letter;
+use smallvec::SmallVec;
 use std::marker::Model;
 
 /// The letters of a link, in order.
@@ -65,10 +66,10 @@ impl Path {
     }
 }
 
-/// The delays of a packet in microseconds, one a hop.
+/// The delays of a packet in microseconds, one a hop. Up to four lie in the value itself, more in a list of their own.
 #[derive(Debug, Drop)]
 pub struct Delays {
-    items: Vec<u32>,
+    items: SmallVec<u32, 4>,
 }
 
 impl Model for Delays {
@@ -84,6 +85,15 @@ impl Delays {
     pub fn new(items: Vec<u32>) -> Delays
         ensures { result ≡ items.items }
     {
+        Delays {
+            items: SmallVec::from_vec(items),
+        }
+    }
+
+    /// The list of these items, which stay where they are. Takes no memory.
+    pub fn of_few(items: SmallVec<u32, 4>) -> Delays
+        ensures { result ≡ items.items }
+    {
         Delays { items }
     }
 
@@ -91,6 +101,6 @@ impl Delays {
     pub fn items(&self) -> &[u32]
         ensures { result.now ≡ self.now }
     {
-        &self.items
+        self.items.as_slice()
     }
 }

@@ -9,7 +9,8 @@ use Rattle.std.proofs.Math.ListN.{get_or-eq_default}
 use Rattle.lg_model.specs.declared.scenario.Flow.{Flow}
 use Rattle.lg_model.specs.declared.scenario.Step.{Step}
 use Rattle.lg_model.specs.declared.scenario.Step.TheVariants as steps
-use Rattle.lg_model.specs.Scenario.{Scenario, IsScenario, IsFlow, flow_at, no_flow}
+use Rattle.lg_model.specs.Keeping.{IsScenario, IsFlow}
+use Rattle.lg_model.specs.Scenario.{Scenario, flow_at, no_flow}
 use Rattle.lg_model.specs.Trace.{Packet, packet_of, packets_of, packets, meetings}
 use Rattle.lg_model.specs.Carrying.{picked}
 use Rattle.lg_model.specs.Offering.{Offering, IsPick, offering}
@@ -25,7 +26,7 @@ short_flow : (w : Scenario) (at : ℕ) → IsScenario w → length (flow_at w.fl
 short_flow w at is =
     let P : Flow → Type 0 = λ f. length f.path ≤ 16 in
     elim (cases_lt at (length w.flows)) [
-      | inl inside ↦ (All-get_or (IsFlow (length w.hosts) (length w.switches)) w.flows at no_flow inside is.flows).few_hops
+      | inl inside ↦ (All-get_or (IsFlow (length w.hosts) (length w.switches)) w.flows at no_flow inside is.flows.each).few_hops
       | inr past ↦ subst P (sym (get_or-eq_default w.flows no_flow past)) (let e : length no_flow.path ≤ 16 = omega arith in e)
     ]
 
@@ -40,7 +41,7 @@ short_packets w is = all_made (λ (p : Packet). length p.flow.path ≤ 16) (pack
     each k steps.Release = All-nil (λ (p : Packet). length p.flow.path ≤ 16)
 
 pub meetings_fit : (w : Scenario) → IsScenario w → length (meetings w) < 2 ^ 64
-meetings_fit w is = omega (arith, few_meetings 0 (packets w) (short_packets w is), length_packets w, is.few_packets)
+meetings_fit w is = omega (arith, few_meetings 0 (packets w) (short_packets w is), length_packets w, is.steps.few_packets)
 
 unoffered : (w : Scenario) (ps : List AnyPicker) → AreFresh w ps → (s : ℕ) (p : AnyPicker) → slice_get ps s ≡ Some p
     → p ≡ after_offers w.pick (slice_index w.switches s) 0

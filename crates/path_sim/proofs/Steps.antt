@@ -8,7 +8,8 @@ use Rattle.std.proofs.lemmas.List.Elements.{All-get_or, All-nil}
 use Rattle.lg_model.specs.declared.scenario.Fate.{Fate}
 use Rattle.lg_model.specs.declared.scenario.Step.{Step}
 use Rattle.lg_model.specs.declared.scenario.Step.TheVariants as steps
-use Rattle.lg_model.specs.Scenario.{Scenario, IsScenario, IsStep, IsFlow, flow_at, no_flow, is_end_of, ended}
+use Rattle.lg_model.specs.Keeping.{IsScenario, IsStep, IsFlow}
+use Rattle.lg_model.specs.Scenario.{Scenario, flow_at, no_flow, is_end_of, ended}
 use Rattle.lg_model.specs.Trace.{Packet, packets, packet_of, packets_of, packets_until, meetings_in}
 use Rattle.lg_model.specs.Carrying as model
 use Rattle.lg_model.specs.Offering.{Picks, Offering}
@@ -63,16 +64,16 @@ packet_is_at w n f size delays count fate b h step low =
 -- what the scenario says of the step
 pub step_fits : (w : Scenario) (n : ℕ) (step : Step) → IsScenario w → n < length w.steps → step_in w n ≡ step → IsStep (length w.switches) w.flows step
 step_fits w n step is h same = subst (IsStep (length w.switches) w.flows) same
-    (All-get_or (IsStep (length w.switches) w.flows) w.steps n steps.Release h is.steps)
+    (All-get_or (IsStep (length w.switches) w.flows) w.steps n steps.Release h is.steps.each)
 
 pub flow_fits : (w : Scenario) (at : ℕ) → IsScenario w → at < length w.flows → IsFlow (length w.hosts) (length w.switches) (flow_at w.flows at)
-flow_fits w at is h = All-get_or (IsFlow (length w.hosts) (length w.switches)) w.flows at no_flow h is.flows
+flow_fits w at is h = All-get_or (IsFlow (length w.hosts) (length w.switches)) w.flows at no_flow h is.flows.each
 
 pub number_fits : (w : Scenario) (n : ℕ) → n ≤ length w.steps → length (packets_until w n) ≤ length (packets w)
 number_fits w n h = omega (arith, ap length (packets_split w n h), length-append (packets_until w n) (packets_from w n))
 
 pub few_packets : (w : Scenario) → IsScenario w → length (packets w) ≤ 1000000
-few_packets w is = omega (arith, length_packets w, is.few_packets)
+few_packets w is = omega (arith, length_packets w, is.steps.few_packets)
 
 -- a step without packets
 pub quiet_more : (w : Scenario) (n : ℕ) → n < length w.steps → packets_of w.flows (n, step_in w n) ≡ [] → packets_until w (n + 1) ≡ packets_until w n
@@ -90,7 +91,7 @@ ended_fits w n s is h inside ends =
     let more : ended w s (n + 1) ≡ ended w s n + 1 = ended_more w s n h ∙ ap (λ b. ended w s n + cond b 1 0) ends in
     let up : ended w s (n + 1) ≤ ended w s (length w.steps) = ended_rises w s (n + 1) (length w.steps) (omega arith) in
     let all : ended w s (length w.steps) ≡ count_by (is_end_of s) w.steps = ap (count_by (is_end_of s)) (take_all (length w.steps) w.steps (omega arith)) in
-    omega (arith, is.few_ends s inside)
+    omega (arith, is.steps.few_ends s inside)
 
 -- the step that the code reads
 pub step_known : (w : Scenario) (n : ℕ) (xs : List Step) (x : Step) → xs ≡ w.steps → n < length w.steps → x ≡ slice_index_or xs n x → step_in w n ≡ x
@@ -106,7 +107,7 @@ pub sends : (w : Scenario) (k : ℕ) (s : Sent) → IsScenario w → IsPacketSte
 sends w k s is step number b low =
     let n = s.step_at in
     let fits = step_fits w n (steps.Packet step.flow_at s.size s.delays.now s.burst s.fate) is step.inside step.step in
-    let its = flow_fits w step.flow_at is fits.0 in
+    let its = flow_fits w step.flow_at is fits.flow in
     let more = number_more w n step.flow_at s.size s.delays.now s.burst s.fate step.inside step.step in
     let here : packet_at w (k + b) ≡ packet_of w.flows n step.flow_at s.size s.delays.now s.fate =
     ap (λ (a : ℕ). packet_at w (a + b)) number ∙ packet_is_at w n step.flow_at s.size s.delays.now s.burst s.fate b step.inside step.step low in
@@ -119,9 +120,9 @@ sends w k s is step number b low =
       fits = record {
         path = rw step.flow its.path;
         few_hops = rw step.flow its.few_hops;
-        delays = rw step.flow fits.1;
+        delays = rw step.flow fits.hops;
         reached_is = step.reached_is;
-        reach = rw (step.reached_is, step.flow) fits.2;
+        reach = rw (step.reached_is, step.flow) fits.reach;
       };
       host = rw step.flow its.host;
       places = step.places;

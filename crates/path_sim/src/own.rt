@@ -1,6 +1,6 @@
 //! The network with the scenario's own pickers.
 ghost use Rattle.std.specs.Prelude.{◌≡◌, All, IfOk, length};
-ghost use Rattle.lg_model.specs.Scenario.{IsScenario};
+ghost use Rattle.lg_model.specs.Keeping.{IsScenario};
 ghost use Rattle.lg_model.specs.Carrying.{picked, IsAllowed};
 ghost use Rattle.lg_model.specs.Trace.{meetings};
 ghost use Rattle.lg_model.specs.TwinsState.{AreTwins};

@@ -21,7 +21,7 @@ use Rattle.lg_model.proofs.Answering.{true_answer, table_is}
 use Rattle.sumax_sketch.specs.SketchState.{SketchState}
 use Rattle.flow_query.specs.Rebuilt.{IsRebuilt}
 use Rattle.flow_query.proofs.Telling.{law}
-use Rattle.scenario_lines.specs.Readable.{AreApart, IsAskLine}
+use Rattle.lg_model.specs.Keeping.{AreApart, IsAsk}
 use Rattle.scenario_parts.specs.Whole.{IsWhole}
 use Rattle.run_laws.specs.Truth.{IsTrueIn, IsFrozenSketch, LawOfTrueBooks, asked_key}
 
@@ -72,15 +72,15 @@ agrees_at w m name s e own all here j = its (found m k) (all k)
     its None is = tt
     its (Some v) is = cells_at w k v s own is here
 
-true_in : (w : Scenario) (m : Content) (q : Ask) → IsWhole w → AgreesWith w m → IsAskLine w.switches q → IsTrueIn w m q
+true_in : (w : Scenario) (m : Content) (q : Ask) → IsWhole w → AgreesWith w m → IsAsk w.switches w.flows q → IsTrueIn w m q
 true_in w m q whole all asked =
     let p = place_of w.switches q.switch asked.declared in
     let here : IsSwitch w q.switch p.at = record { declared = p.inside; named = p.is } in
     record {
       switch_at = p.at;
       switch = here;
-      bound = true_answer (look_in m) w q.switch p.at q.epoch (asked_key w q) whole.fits.shape.some_width
-          (agrees_at w m q.switch p.at q.epoch whole.lines.own_switches all here);
+      bound = true_answer (look_in m) w q.switch p.at q.epoch (asked_key w q) whole.scenario.shape.some_width
+          (agrees_at w m q.switch p.at q.epoch whole.scenario.switches.own all here);
       exact = law (look_in m) w.shape q.switch q.epoch (asked_key w q);
     }
 
@@ -117,9 +117,9 @@ frozen_sketch : (w : Scenario) (m : Content) (name e : ℕ) (sketch : SketchStat
     IsFrozenSketch w name e sketch
 frozen_sketch w m name e sketch whole all is =
     let k : Key = record { switch = name; epoch = e; index = 0 } in
-    let first = first_column w k sketch.table (found m k) (is.buckets 0 0 whole.fits.shape.some_rows whole.fits.shape.some_width) (all k) in
+    let first = first_column w k sketch.table (found m k) (is.buckets 0 0 whole.scenario.shape.some_rows whole.scenario.shape.some_width) (all k) in
     let s : ℕ = first.1.switch_at in
-    let agrees = agrees_at w m name s e whole.lines.own_switches all first.1.switch in
+    let agrees = agrees_at w m name s e whole.scenario.switches.own all first.1.switch in
     record {
       switch_at = s;
       switch = first.1.switch;
@@ -130,6 +130,6 @@ frozen_sketch w m name e sketch whole all is =
 
 pub true_book : LawOfTrueBooks
 true_book w m whole all = record {
-  answers = λ k d inside. true_in w m (slice_index_or w.asks k d) whole all (whole.lines.asks k d inside);
+  answers = λ k d inside. true_in w m (slice_index_or w.asks k d) whole all (whole.scenario.asks.each k d inside);
   sketches = λ name e sketch is. frozen_sketch w m name e sketch whole all is;
 }

@@ -19,7 +19,7 @@ use Rattle.column_book.specs.declared.fault.BookFault.{BookFault}
 use Rattle.column_book.specs.declared.fault.BookFault.TheVariants.{WrongShape, Conflict, Full}
 use Rattle.column_book.specs.Entries.{columns_in}
 use Rattle.lg_model.specs.Joining.{IsFrozen}
-use Rattle.scenario_lines.specs.Readable.{AreApart}
+use Rattle.lg_model.specs.Keeping.{AreApart}
 use Rattle.run_laws.specs.Truth.{book_of, IsFrozenColumn}
 use Rattle.run_laws.proofs.Agreeing.{cells_at}
 use Rattle.run_laws.specs.Booking.{host_uploads, uploads_of, booked_in, IsBooking, LawOfBookings}
@@ -80,11 +80,11 @@ booking w room (Ok es) h = h
 
 pub law : LawOfBookings
 law w room whole =
-    let all : Placed w = placed w (picked w) whole.fits (picked_is_allowed w whole.fits.shape.some_width) in
+    let all : Placed w = placed w (picked w) whole.scenario (picked_is_allowed w whole.scenario.shape.some_width) in
     let came = brought_to_all w (picked w) in
     let frozen = frozen_all w all in
     let is : columns_in (uploads_of w) ≡ came = columns_from w 0 w.hosts in
-    let goods = recursion_from_All (IsGood w.shape (IsFrozen w)) came (λ i d inside. good w _ whole.lines.own_switches (frozen i d inside)) in
+    let goods = recursion_from_All (IsGood w.shape (IsFrozen w)) came (λ i d inside. good w _ whole.scenario.switches.own (frozen i d inside)) in
     booking w room (booked_in room w)
     (subst (λ (cs : List Column). Comes room (content_of cs) (booked_in room w)) is
     (comes w.shape room 0 (IsFrozen w) (uploads_of w) [] (record { knows = λ q. tt; each = refl; few = omega arith })

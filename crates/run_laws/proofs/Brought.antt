@@ -10,7 +10,8 @@ use Rattle.lg_model.proofs.Tracing.{ended_rises}
 use Rattle.lg_model.specs.declared.scenario.Flow.{Flow}
 use Rattle.lg_model.specs.declared.scenario.Step.{Step}
 use Rattle.lg_model.specs.declared.scenario.Step.TheVariants as steps
-use Rattle.lg_model.specs.Scenario.{Scenario, flow_at, no_flow, IsFlow, IsStep, IsScenario, ended, is_end_of}
+use Rattle.lg_model.specs.Keeping.{IsFlow, IsStep, IsScenario}
+use Rattle.lg_model.specs.Scenario.{Scenario, flow_at, no_flow, ended, is_end_of}
 use Rattle.lg_model.specs.Trace.{Packet, Meeting, packets_of, packets, meetings, meetings_of, meeting_of, reach}
 use Rattle.lg_model.specs.Carrying.{Carry, IsAllowed, IsCarriedAt}
 use Rattle.lg_model.specs.Arriving.{column_of, cargo, brings, deliveries, arrivals, brought, brought_to_all, packet_at}
@@ -76,7 +77,7 @@ guided_step : (hosts n k : ℕ) (flows : List Flow) (step : Step) → All (IsFlo
     All (IsGuided n) (packets_of flows (k, step))
 guided_step hosts n k flows (steps.Packet at size delays burst fate) all is =
     All-replicate (IsGuided n) burst (record { step_at = k; flow = flow_at flows at; size = size; delays = delays; fate = fate })
-    (All-get_or (IsFlow hosts n) flows at no_flow is.0 all).path
+    (All-get_or (IsFlow hosts n) flows at no_flow is.flow all).path
 guided_step hosts n k flows (steps.End s) all is = All-nil (IsGuided n)
 guided_step hosts n k flows steps.EndAll all is = All-nil (IsGuided n)
 guided_step hosts n k flows steps.Release all is = All-nil (IsGuided n)
@@ -105,7 +106,7 @@ met_packets n k (p ∷ ps) all =
 
 -- a meeting is with a switch that is there
 pub met : (w : Scenario) → IsScenario w → All (λ (m : Meeting). m.switch_at < length w.switches) (meetings w)
-met w is = met_packets (length w.switches) 0 (packets w) (guided_steps (length w.hosts) (length w.switches) 0 w.flows w.steps is.flows is.steps)
+met w is = met_packets (length w.switches) 0 (packets w) (guided_steps (length w.hosts) (length w.switches) 0 w.flows w.steps is.flows.each is.steps.each)
 
 -- and an entry of an allowed list names one, of an epoch that ended, and an index below the width
 pub record IsPlaced (w : Scenario) (c : Carry) : Type 0 where

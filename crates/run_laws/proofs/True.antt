@@ -12,7 +12,7 @@ use Rattle.lg_model.specs.Answer.{look_in}
 use Rattle.lg_model.specs.Joining.{IsSwitch, IsFrozen, AgreesWith}
 use Rattle.lg_model.specs.Sketch.{frozen_cells}
 use Rattle.flow_query.specs.Told.{NoneIsKnown}
-use Rattle.scenario_lines.specs.Readable.{AreApart}
+use Rattle.lg_model.specs.Keeping.{AreApart}
 use Rattle.scenario_parts.specs.Whole.{IsWhole}
 use Rattle.run_laws.specs.Truth.{book_of, IsFrozenColumn, IsOneEach, NoneArrived, IsTrueIn, IsTrueOf, IsTrueRun, asked_key, place_key}
 use Rattle.run_laws.proofs.Agreeing.{cells_at, true_book}
@@ -64,13 +64,13 @@ true_of w q is =
 
 pub true_run : (w : Scenario) → IsWhole w → IsTrueRun w
 true_run w whole =
-    let allowed = picked_is_allowed w whole.fits.shape.some_width in
-    let all = frozen_all w (placed w (picked w) whole.fits allowed) in
+    let allowed = picked_is_allowed w whole.scenario.shape.some_width in
+    let all = frozen_all w (placed w (picked w) whole.scenario allowed) in
     let book = true_book w (book_of w) whole (agrees w all) in
     record {
       allowed = allowed;
       frozen = all;
-      one_each = one_each w whole.lines.own_switches all;
+      one_each = one_each w whole.scenario.switches.own all;
       agrees = agrees w all;
       answers = λ k d inside. true_of w (slice_index_or w.asks k d) (book.answers k d inside);
     }

@@ -5,7 +5,7 @@ use Rattle.std.proofs.lemmas.Grind.{common_steps}
 use Rattle.lg_model.specs.declared.scenario.Step.{Step}
 use Rattle.lg_model.specs.declared.scenario.Step.TheVariants.{End}
 use Rattle.lg_model.specs.Scenario.{burst_of, is_end_of, packet_count}
-use Rattle.scenario_lines.specs.Counts.{ends_of}
+use Rattle.lg_model.specs.Keeping.{ends_of}
 
 pub ends_more : (i : ℕ) (ts : List Step) (t : Step) → ends_of i (ts ++ t ∷ []) ≡ ends_of i ts + cond (is_end_of i t) 1 0
 ends_more i ts t = sum_by_push (λ x. cond (is_end_of i x) 1 0) ts t

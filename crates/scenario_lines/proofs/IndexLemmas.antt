@@ -4,7 +4,7 @@ use Rattle.std.proofs.Math.Seq.{get_or-append_seam}
 use Rattle.std.proofs.lemmas.Bool.{cases_lt, ltb-false}
 use Rattle.std.proofs.lemmas.List.{get_or-take, get_or_append_left, get_or-set_other, get_or-set_same, get_or-map, map-append, length-map}
 use Rattle.lg_model.specs.declared.scenario.Flow.{Flow}
-use Rattle.scenario_lines.specs.Counts.{names_of}
+use Rattle.lg_model.specs.Keeping.{names_of}
 use Rattle.std.specs.List.{position, position_or_len}
 use Rattle.std.proofs.lemmas.List.Sums.{position_or_len_is}
 use Rattle.scenario_lines.specs.Index.{IsIndexed}

@@ -2,6 +2,6 @@ pub mod PathLemmas
 pub mod IndexLemmas
 pub mod CountLemmas
 pub mod SizeLemmas
-pub mod ReadableLemmas
-pub mod ScenarioLemmas
+pub mod NameLemmas
+pub mod KeepingLemmas
 pub mod WeightLemmas

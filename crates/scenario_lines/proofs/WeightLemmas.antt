@@ -16,7 +16,8 @@ use Rattle.lg_model.specs.declared.scenario.Step.{Step}
 use Rattle.lg_model.specs.declared.scenario.Step.TheVariants as steps
 use Rattle.lg_model.specs.declared.scenario.Ask.{Ask}
 use Rattle.lg_model.specs.Placing.{Shape}
-use Rattle.lg_model.specs.Scenario.{IsFlow, IsStep, IsAsk, no_flow}
+use Rattle.lg_model.specs.Keeping.{IsFlow, IsStep, IsAsk, host_names}
+use Rattle.lg_model.specs.Scenario.{no_flow}
 use Rattle.scenario_lines.specs.declared.section.Section.{Section}
 use Rattle.scenario_lines.specs.declared.section.Section.TheVariants as sections
 use Rattle.scenario_lines.specs.declared.section.Section.TheVariants.{Declarations, Steps, Done}
@@ -24,11 +25,11 @@ use Rattle.scenario_lines.specs.declared.section.Keyword.{Keyword}
 use Rattle.scenario_lines.specs.declared.section.Keyword.TheVariants as words
 use Rattle.scenario_lines.specs.Sections.{admits, is_first}
 use Rattle.text_out.specs.Words.{Words}
-use Rattle.scenario_lines.specs.Spelling.{size, shape_line_words, pick_line_words, key_parts, host_words, host_names, switch_words, path_words, flow_words, byte_of, step_words, ask_words}
+use Rattle.scenario_lines.specs.Spelling.{size, shape_line_words, pick_line_words, key_parts, host_words, switch_words, path_words, flow_words, byte_of, step_words, ask_words}
 use Rattle.scenario_lines.specs.Line.{linked, linked_at, no_letters, unlinked}
 use Rattle.scenario_lines.specs.Draft.{State, IsDraft}
 use Rattle.scenario_lines.specs.PrintedLen.{frame_size, link_size, printed_len, keyword_size, first_size}
-use Rattle.scenario_lines.proofs.ReadableLemmas.{names_linked}
+use Rattle.scenario_lines.proofs.NameLemmas.{names_linked}
 
 -- ---- the words of a line
 
@@ -95,15 +96,15 @@ step_by_switch flows now switches n steps.Release is ok = refl
 
 step_by_flow : (now flows : List Flow) (f : Flow) (switches : List ℕ) (t : Step) → now ≡ flows ++ f ∷ [] → IsStep (length switches) flows t → size (step_words now switches t) ≡ size (step_words flows switches t)
 step_by_flow now flows f switches (steps.Packet at bytes delays burst x) is ok =
-    ap (λ (n : ℕ). size (step_words (record { name = n; key = no_flow.key; host_at = 0; path = [] } ∷ []) switches (steps.Packet 0 bytes delays burst x))) (name_kept (λ (g : Flow). g.name) now flows f at is ok.0)
+    ap (λ (n : ℕ). size (step_words (record { name = n; key = no_flow.key; host_at = 0; path = [] } ∷ []) switches (steps.Packet 0 bytes delays burst x))) (name_kept (λ (g : Flow). g.name) now flows f at is ok.flow)
 step_by_flow now flows f switches (steps.End at) is ok = refl
 step_by_flow now flows f switches steps.EndAll is ok = refl
 step_by_flow now flows f switches steps.Release is ok = refl
 
-asks_by_flow : (now flows : List Flow) (f : Flow) (asks : List Ask) → now ≡ flows ++ f ∷ [] → All (IsAsk flows) asks → sum_by (λ q. size (ask_words now q)) asks ≡ sum_by (λ q. size (ask_words flows q)) asks
-asks_by_flow now flows f asks is ok = sum_same (λ q. size (ask_words now q)) (λ q. size (ask_words flows q)) asks (λ k d lt.
+asks_by_flow : (switches : List ℕ) (now flows : List Flow) (f : Flow) (asks : List Ask) → now ≡ flows ++ f ∷ [] → All (IsAsk switches flows) asks → sum_by (λ q. size (ask_words now q)) asks ≡ sum_by (λ q. size (ask_words flows q)) asks
+asks_by_flow switches now flows f asks is ok = sum_same (λ q. size (ask_words now q)) (λ q. size (ask_words flows q)) asks (λ k d lt.
     let q = get_or asks k d in
-    ap (λ (n : ℕ). size (codes "ask" ∷ decimal n ∷ decimal q.switch ∷ decimal q.epoch ∷ [])) (name_kept (λ (g : Flow). g.name) now flows f q.flow_at is (ok k d lt)))
+    ap (λ (n : ℕ). size (codes "ask" ∷ decimal n ∷ decimal q.switch ∷ decimal q.epoch ∷ [])) (name_kept (λ (g : Flow). g.name) now flows f q.flow_at is (ok k d lt).flow))
 
 -- ---- the first lines and the last
 
@@ -117,7 +118,7 @@ frame_first Done shape pick is = absurd cc
 
 pub started_weighs : (s : State) → is_first s.section ≡ true → printed_len (record s { section = sections.Shape }) ≡ printed_len s + 11
 unfolding printed_len
-started_weighs s is = omega (arith, frame_first s.section s.shape s.pick is)
+started_weighs s is = omega (arith, frame_first s.section s.parts.shape s.parts.pick is)
 
 frame_second : (x : Section) (shape : Shape) (pick : Pick) → admits x words.Shape ≡ true → frame_size x shape pick ≡ 11
 frame_second sections.Version shape pick is = absurd cc
@@ -127,9 +128,9 @@ frame_second Declarations shape pick is = absurd cc
 frame_second Steps shape pick is = absurd cc
 frame_second Done shape pick is = absurd cc
 
-pub shape_weighs : (s : State) (shape : Shape) → admits s.section words.Shape ≡ true → printed_len (record s { section = sections.Pick; shape = shape }) ≡ printed_len s + size (shape_line_words shape)
+pub shape_weighs : (s : State) (shape : Shape) → admits s.section words.Shape ≡ true → printed_len (record s { section = sections.Pick; parts = record s.parts { shape = shape } }) ≡ printed_len s + size (shape_line_words shape)
 unfolding printed_len
-shape_weighs s shape is = omega (arith, frame_second s.section s.shape s.pick is)
+shape_weighs s shape is = omega (arith, frame_second s.section s.parts.shape s.parts.pick is)
 
 frame_third : (x : Section) (shape : Shape) (pick : Pick) → admits x words.Pick ≡ true → frame_size x shape pick ≡ 11 + size (shape_line_words shape)
 frame_third sections.Version shape pick is = absurd cc
@@ -139,9 +140,9 @@ frame_third Declarations shape pick is = absurd cc
 frame_third Steps shape pick is = absurd cc
 frame_third Done shape pick is = absurd cc
 
-pub pick_weighs : (s : State) (pick : Pick) → admits s.section words.Pick ≡ true → printed_len (record s { section = Declarations; pick = pick }) ≡ printed_len s + size (pick_line_words pick)
+pub pick_weighs : (s : State) (pick : Pick) → admits s.section words.Pick ≡ true → printed_len (record s { section = Declarations; parts = record s.parts { pick = pick } }) ≡ printed_len s + size (pick_line_words pick)
 unfolding printed_len
-pick_weighs s pick is = omega (arith, frame_third s.section s.shape s.pick is)
+pick_weighs s pick is = omega (arith, frame_third s.section s.parts.shape s.parts.pick is)
 
 -- A section in which steps may come.
 abbrev pub IsOpen : Section → Type 0
@@ -189,45 +190,45 @@ open_done Done is shape pick = absurd cc
 
 pub done_weighs : (s : State) → admits s.section words.Done ≡ true → printed_len (record s { section = Done }) ≡ printed_len s + 5
 unfolding printed_len
-done_weighs s is = omega (arith, open_done s.section is s.shape s.pick)
+done_weighs s is = omega (arith, open_done s.section is s.parts.shape s.parts.pick)
 
 -- ---- declarations
 
-pub host_weighs : (s : State) (hosts : List HostLine) (h : HostLine) → IsDraft s → hosts ≡ s.hosts ++ h ∷ [] → length h.letters ≡ 0 → printed_len (record s { hosts = hosts }) ≡ printed_len s + size (host_words h)
+pub host_weighs : (s : State) (hosts : List HostLine) (h : HostLine) → IsDraft s → hosts ≡ s.parts.hosts ++ h ∷ [] → length h.letters ≡ 0 → printed_len (record s { parts = record s.parts { hosts = hosts } }) ≡ printed_len s + size (host_words h)
 unfolding printed_len
 host_weighs s hosts h ok is none =
     let link : link_size h ≡ 0 = rw none refl in
-    omega (arith, sum_more (λ g. size (host_words g)) hosts s.hosts h is, sum_more link_size hosts s.hosts h is, flows_by_host hosts s.hosts h s.switches s.flows is ok.scenario.flows, link)
+    omega (arith, sum_more (λ g. size (host_words g)) hosts s.parts.hosts h is, sum_more link_size hosts s.parts.hosts h is, flows_by_host hosts s.parts.hosts h s.parts.switches s.parts.flows is ok.scenario.flows.each, link)
 
-pub switch_weighs : (s : State) (switches : List ℕ) (n : ℕ) → IsDraft s → switches ≡ s.switches ++ n ∷ [] → printed_len (record s { switches = switches }) ≡ printed_len s + size (switch_words n)
+pub switch_weighs : (s : State) (switches : List ℕ) (n : ℕ) → IsDraft s → switches ≡ s.parts.switches ++ n ∷ [] → printed_len (record s { parts = record s.parts { switches = switches } }) ≡ printed_len s + size (switch_words n)
 unfolding printed_len
 switch_weighs s switches n ok is =
     omega (
       arith,
-      sum_more (λ m. size (switch_words m)) switches s.switches n is,
-      flows_by_switch s.hosts switches s.switches n s.flows is ok.scenario.flows,
-      sum_same (λ t. size (step_words s.flows switches t)) (λ t. size (step_words s.flows s.switches t)) s.steps (λ k d lt. step_by_switch s.flows switches s.switches n (get_or s.steps k d) is (ok.scenario.steps k d lt)),
+      sum_more (λ m. size (switch_words m)) switches s.parts.switches n is,
+      flows_by_switch s.parts.hosts switches s.parts.switches n s.parts.flows is ok.scenario.flows.each,
+      sum_same (λ t. size (step_words s.parts.flows switches t)) (λ t. size (step_words s.parts.flows s.parts.switches t)) s.parts.steps (λ k d lt. step_by_switch s.parts.flows switches s.parts.switches n (get_or s.parts.steps k d) is (ok.scenario.steps.each k d lt)),
     )
 
-pub flow_weighs : (s : State) (flows : List Flow) (f : Flow) → IsDraft s → flows ≡ s.flows ++ f ∷ [] → printed_len (record s { flows = flows }) ≡ printed_len s + size (flow_words s.hosts s.switches f)
+pub flow_weighs : (s : State) (flows : List Flow) (f : Flow) → IsDraft s → flows ≡ s.parts.flows ++ f ∷ [] → printed_len (record s { parts = record s.parts { flows = flows } }) ≡ printed_len s + size (flow_words s.parts.hosts s.parts.switches f)
 unfolding printed_len
 flow_weighs s flows f ok is =
     omega (
       arith,
-      sum_more (λ g. size (flow_words s.hosts s.switches g)) flows s.flows f is,
-      asks_by_flow flows s.flows f s.asks is ok.scenario.asks,
-      sum_same (λ t. size (step_words flows s.switches t)) (λ t. size (step_words s.flows s.switches t)) s.steps (λ k d lt. step_by_flow flows s.flows f s.switches (get_or s.steps k d) is (ok.scenario.steps k d lt)),
+      sum_more (λ g. size (flow_words s.parts.hosts s.parts.switches g)) flows s.parts.flows f is,
+      asks_by_flow s.parts.switches flows s.parts.flows f s.parts.asks is ok.scenario.asks.each,
+      sum_same (λ t. size (step_words flows s.parts.switches t)) (λ t. size (step_words s.parts.flows s.parts.switches t)) s.parts.steps (λ k d lt. step_by_flow flows s.parts.flows f s.parts.switches (get_or s.parts.steps k d) is (ok.scenario.steps.each k d lt)),
     )
 
 -- ---- steps and asks
 
-pub step_weighs : (s : State) (ts : List Step) (t : Step) → IsOpen s.section → ts ≡ s.steps ++ t ∷ [] → printed_len (record s { section = Steps; steps = ts }) ≡ printed_len s + size (step_words s.flows s.switches t)
+pub step_weighs : (s : State) (ts : List Step) (t : Step) → IsOpen s.section → ts ≡ s.parts.steps ++ t ∷ [] → printed_len (record s { section = Steps; parts = record s.parts { steps = ts } }) ≡ printed_len s + size (step_words s.parts.flows s.parts.switches t)
 unfolding printed_len
-step_weighs s ts t free is = omega (arith, free s.shape s.pick, sum_more (λ u. size (step_words s.flows s.switches u)) ts s.steps t is)
+step_weighs s ts t free is = omega (arith, free s.parts.shape s.parts.pick, sum_more (λ u. size (step_words s.parts.flows s.parts.switches u)) ts s.parts.steps t is)
 
-pub ask_weighs : (s : State) (asks : List Ask) (q : Ask) → admits s.section words.Ask ≡ true → asks ≡ s.asks ++ q ∷ [] → printed_len (record s { section = Steps; asks = asks }) ≡ printed_len s + size (ask_words s.flows q)
+pub ask_weighs : (s : State) (asks : List Ask) (q : Ask) → admits s.section words.Ask ≡ true → asks ≡ s.parts.asks ++ q ∷ [] → printed_len (record s { section = Steps; parts = record s.parts { asks = asks } }) ≡ printed_len s + size (ask_words s.parts.flows q)
 unfolding printed_len
-ask_weighs s asks q free is = omega (arith, open_ask s.section free s.shape s.pick, sum_more (λ r. size (ask_words s.flows r)) asks s.asks q is)
+ask_weighs s asks q free is = omega (arith, open_ask s.section free s.parts.shape s.parts.pick, sum_more (λ r. size (ask_words s.parts.flows r)) asks s.parts.asks q is)
 
 -- ---- letters
 
@@ -264,8 +265,8 @@ link_sums hosts at ls (Some h) is free =
       links = omega (arith, linked_sum link_size hosts at ls h is, no_link h (eqb (length h.letters) 0) refl free, link_most (record h { letters = ls }) (eqb (length ls) 0) refl);
     }
 
-pub link_weighs : (s : State) (hosts : List HostLine) (at : ℕ) (ls : List Letter) → hosts ≡ linked s.hosts at ls → unlinked s.hosts at ≡ Ok tt → printed_len (record s { hosts = hosts }) ≤ printed_len s + (6 + length (decimal (slice_index (host_names s.hosts) at)) + (length ls + 1))
+pub link_weighs : (s : State) (hosts : List HostLine) (at : ℕ) (ls : List Letter) → hosts ≡ linked s.parts.hosts at ls → unlinked s.parts.hosts at ≡ Ok tt → printed_len (record s { parts = record s.parts { hosts = hosts } }) ≤ printed_len s + (6 + length (decimal (slice_index (host_names s.parts.hosts) at)) + (length ls + 1))
 unfolding printed_len unlinked
 link_weighs s hosts at ls is free =
-    let sums : Linked s.hosts hosts (slice_index (host_names s.hosts) at) (length ls) = rw is (link_sums s.hosts at ls (slice_get s.hosts at) refl free) in
-    omega (arith, sums.names, sums.links, flows_linked hosts s.hosts s.switches s.flows (ap host_names is ∙ names_linked s.hosts at ls))
+    let sums : Linked s.parts.hosts hosts (slice_index (host_names s.parts.hosts) at) (length ls) = rw is (link_sums s.parts.hosts at ls (slice_get s.parts.hosts at) refl free) in
+    omega (arith, sums.names, sums.links, flows_linked hosts s.parts.hosts s.parts.switches s.parts.flows (ap host_names is ∙ names_linked s.parts.hosts at ls))

@@ -21,7 +21,7 @@ use Rattle.scenario_lines.specs.declared.why.Why.{Why}
 use Rattle.scenario_lines.specs.declared.why.Why.TheVariants.{WordCount, BadNumber, BadKey, Repeated, UnknownName, BadPath, BadWord, BadLetters, TooMany}
 use Rattle.scenario_lines.specs.declared.fault.LineFault.{LineFault}
 use Rattle.scenario_lines.specs.declared.fault.LineFault.TheVariants as faults
-use Rattle.scenario_lines.specs.Counts.{names_of, ends_of}
+use Rattle.lg_model.specs.Keeping.{names_of, ends_of}
 use Rattle.text_out.specs.Words.{Words}
 use Rattle.scenario_lines.specs.Draft.{State}
 

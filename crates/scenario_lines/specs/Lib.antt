@@ -1,9 +1,7 @@
 pub mod Whys
 pub mod Sections
-pub mod Counts
 pub mod Index
 pub mod Spelling
-pub mod Readable
 pub mod Draft
 pub mod Fields
 pub mod Line

@@ -6,7 +6,7 @@ use Rattle.lg_model.specs.declared.limits.TheConstants.{MOST_ROWS, MOST_WIDTH, M
 use Rattle.lg_model.specs.declared.scenario.Letter.{Letter}
 use Rattle.lg_model.specs.declared.scenario.HostLine.{HostLine}
 use Rattle.lg_model.specs.declared.scenario.Step.TheVariants as steps
-use Rattle.lg_model.specs.Scenario.{packet_count}
+use Rattle.lg_model.specs.Scenario.{packet_count, path_at}
 use Rattle.scenario_lines.specs.declared.why.Why.{Why}
 use Rattle.scenario_lines.specs.declared.why.Why.TheVariants.{Version, OutOfPlace, UnknownWord, WordCount, Repeated, UnknownName}
 use Rattle.scenario_lines.specs.declared.section.Section.TheVariants as sections
@@ -14,7 +14,7 @@ use Rattle.scenario_lines.specs.declared.section.Section.TheVariants.{Declaratio
 use Rattle.scenario_lines.specs.declared.section.Keyword.{Keyword}
 use Rattle.scenario_lines.specs.declared.section.Keyword.TheVariants as words
 use Rattle.scenario_lines.specs.Sections.{is_first, keyword_of, admits}
-use Rattle.scenario_lines.specs.Counts.{names_of, path_at, ends_of}
+use Rattle.lg_model.specs.Keeping.{names_of, ends_of}
 use Rattle.text_out.specs.Words.{Words}
 use Rattle.scenario_lines.specs.Draft.{State}
 use Rattle.scenario_lines.specs.Fields.{◌>>=◌, number, word, no_more, fresh_name, known_name, position_of, fresh_host, host_position, fresh_flow, room, room_to, room_for_all, key, path, hash, pick, letters_word, delays, burst, fate}
@@ -27,44 +27,44 @@ shape_line s ws = do
   width ← number 1 MOST_WIDTH rows.1
   hashed ← hash width.1
   end ← no_more hashed.1
-  Ok (record s { section = sections.Pick; shape = record { rows = rows.0; width = width.0; hash = hashed.0 } })
+  Ok (record s { section = sections.Pick; parts = record s.parts { shape = record { rows = rows.0; width = width.0; hash = hashed.0 } } })
 
 unfoldable pub pick_line : State → Words → Result State Why
 pick_line s ws = do
   x ← pick ws
   end ← no_more x.1
-  Ok (record s { section = Declarations; pick = x.0 })
+  Ok (record s { section = Declarations; parts = record s.parts { pick = x.0 } })
 
 -- ---- declarations
 
 unfoldable pub host_line : State → Words → Result State Why
 host_line s ws = do
   h ← number 0 65535 ws
-  new ← fresh_host s.hosts h.0
+  new ← fresh_host s.parts.hosts h.0
   end ← no_more h.1
-  fits ← room MOST_HOSTS (length s.hosts)
-  Ok (record s { hosts = s.hosts ++ record { name = h.0; letters = [] } ∷ [] })
+  fits ← room MOST_HOSTS (length s.parts.hosts)
+  Ok (record s { parts = record s.parts { hosts = s.parts.hosts ++ record { name = h.0; letters = [] } ∷ [] } })
 
 unfoldable pub switch_line : State → Words → Result State Why
 switch_line s ws = do
   x ← number 0 65535 ws
-  new ← fresh_name s.switches x.0
+  new ← fresh_name s.parts.switches x.0
   end ← no_more x.1
-  fits ← room MOST_SWITCHES (length s.switches)
-  Ok (record s { switches = s.switches ++ x.0 ∷ [] })
+  fits ← room MOST_SWITCHES (length s.parts.switches)
+  Ok (record s { parts = record s.parts { switches = s.parts.switches ++ x.0 ∷ [] } })
 
 unfoldable pub flow_line : State → Words → Result State Why
 flow_line s ws = do
   f ← number 0 65535 ws
-  new ← fresh_flow s.flows f.0
+  new ← fresh_flow s.parts.flows f.0
   k ← key f.1
   h ← word (codes "host") k.1
   host ← number 0 65535 h
-  at ← host_position s.hosts host.0
+  at ← host_position s.parts.hosts host.0
   p ← word (codes "path") host.1
-  hops ← path s.switches [] p
-  fits ← room MOST_FLOWS (length s.flows)
-  Ok (record s { flows = s.flows ++ record { name = f.0; key = k.0; host_at = at; path = hops } ∷ [] })
+  hops ← path s.parts.switches [] p
+  fits ← room MOST_FLOWS (length s.parts.flows)
+  Ok (record s { parts = record s.parts { flows = s.parts.flows ++ record { name = f.0; key = k.0; host_at = at; path = hops } ∷ [] } })
 
 -- The host at this position has no letters yet.
 abbrev pub no_letters : Option HostLine → Result (Unit {0}) Why
@@ -85,38 +85,38 @@ linked hosts at ls = linked_at hosts at ls (slice_get hosts at)
 unfoldable pub link_line : State → Words → Result State Why
 link_line s ws = do
   h ← number 0 65535 ws
-  at ← host_position s.hosts h.0
-  new ← unlinked s.hosts at
+  at ← host_position s.parts.hosts h.0
+  new ← unlinked s.parts.hosts at
   x ← letters_word h.1
   end ← no_more x.1
-  Ok (record s { hosts = linked s.hosts at x.0 })
+  Ok (record s { parts = record s.parts { hosts = linked s.parts.hosts at x.0 } })
 
 -- ---- steps
 
 unfoldable pub packet_line : State → Words → Result State Why
 packet_line s ws = do
   f ← number 0 65535 ws
-  at ← position_of (names_of s.flows) f.0
+  at ← position_of (names_of s.parts.flows) f.0
   size ← number 0 65535 f.1
-  d ← delays (path_at s.flows at) [] size.1
+  d ← delays (path_at s.parts.flows at) [] size.1
   b ← burst d.1
-  x ← fate (length (path_at s.flows at)) b.1
-  fits ← room_to MOST_PACKETS (packet_count s.steps + b.0)
-  Ok (record s { section = Steps; steps = s.steps ++ steps.Packet at size.0 d.0 b.0 x ∷ [] })
+  x ← fate (length (path_at s.parts.flows at)) b.1
+  fits ← room_to MOST_PACKETS (packet_count s.parts.steps + b.0)
+  Ok (record s { section = Steps; parts = record s.parts { steps = s.parts.steps ++ steps.Packet at size.0 d.0 b.0 x ∷ [] } })
 
 unfoldable pub end_one : State → Words → Result State Why
 end_one s ws = do
   x ← number 0 65535 ws
-  at ← position_of s.switches x.0
+  at ← position_of s.parts.switches x.0
   end ← no_more x.1
-  fits ← room MOST_ENDS (ends_of at s.steps)
-  Ok (record s { section = Steps; steps = s.steps ++ steps.End at ∷ [] })
+  fits ← room MOST_ENDS (ends_of at s.parts.steps)
+  Ok (record s { section = Steps; parts = record s.parts { steps = s.parts.steps ++ steps.End at ∷ [] } })
 
 unfoldable pub end_all : State → Words → Result State Why
 end_all s ws = do
   end ← no_more ws
-  fits ← room_for_all s.steps (length s.switches)
-  Ok (record s { section = Steps; steps = s.steps ++ steps.EndAll ∷ [] })
+  fits ← room_for_all s.parts.steps (length s.parts.switches)
+  Ok (record s { section = Steps; parts = record s.parts { steps = s.parts.steps ++ steps.EndAll ∷ [] } })
 
 unfoldable pub end_line : State → Words → Result State Why
 end_line s [] = Err WordCount
@@ -125,18 +125,18 @@ end_line s (w ∷ ws) = if bytes_eq w (codes "all") then end_all s ws else end_o
 unfoldable pub release_line : State → Words → Result State Why
 release_line s ws = do
   end ← no_more ws
-  Ok (record s { section = Steps; steps = s.steps ++ steps.Release ∷ [] })
+  Ok (record s { section = Steps; parts = record s.parts { steps = s.parts.steps ++ steps.Release ∷ [] } })
 
 unfoldable pub ask_line : State → Words → Result State Why
 ask_line s ws = do
   f ← number 0 65535 ws
-  at ← position_of (names_of s.flows) f.0
+  at ← position_of (names_of s.parts.flows) f.0
   x ← number 0 65535 f.1
-  here ← known_name s.switches x.0
+  here ← known_name s.parts.switches x.0
   e ← number 0 4294967295 x.1
   end ← no_more e.1
-  fits ← room MOST_ASKS (length s.asks)
-  Ok (record s { section = Steps; asks = s.asks ++ record { flow_at = at; switch = x.0; epoch = e.0 } ∷ [] })
+  fits ← room MOST_ASKS (length s.parts.asks)
+  Ok (record s { section = Steps; parts = record s.parts { asks = s.parts.asks ++ record { flow_at = at; switch = x.0; epoch = e.0 } ∷ [] } })
 
 unfoldable pub done_line : State → Words → Result State Why
 done_line s ws = do

@@ -37,7 +37,9 @@ happening_size switches flows steps asks = sum_by (λ t. size (step_words flows 
 
 -- The bytes of all lines that the parts so far print, each with its 0A.
 unfoldable pub printed_len : State → ℕ
-printed_len s = frame_size s.section s.shape s.pick + (declared_size s.hosts s.switches s.flows + happening_size s.switches s.flows s.steps s.asks)
+printed_len s =
+    frame_size s.section s.parts.shape s.parts.pick
+    + (declared_size s.parts.hosts s.parts.switches s.parts.flows + happening_size s.parts.switches s.parts.flows s.parts.steps s.parts.asks)
 
 -- The bytes of a first word and the space after it.
 abbrev pub keyword_size : Keyword → ℕ

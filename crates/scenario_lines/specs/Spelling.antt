@@ -17,7 +17,7 @@ use Rattle.lg_model.specs.declared.scenario.Ask.{Ask}
 use Rattle.lg_model.specs.Placing.{Shape}
 use Rattle.text_out.specs.Words.{Words, joined}
 use Rattle.text_out.specs.Shapes.{shape_words}
-use Rattle.scenario_lines.specs.Counts.{names_of}
+use Rattle.lg_model.specs.Keeping.{names_of, host_names}
 
 -- The text of a line of these words, with its 0A.
 abbrev pub line_text : Words → List ℕ
@@ -69,10 +69,6 @@ host_words h = codes "host" ∷ decimal h.name ∷ []
 -- The words of the line of a switch.
 abbrev pub switch_words : ℕ → Words
 switch_words n = codes "switch" ∷ decimal n ∷ []
-
--- The names of hosts, in their order.
-abbrev pub host_names : List HostLine → List ℕ
-host_names hosts = map (λ h. h.name) hosts
 
 -- The names of the switches at these positions.
 abbrev pub path_words : List ℕ → List ℕ → Words

@@ -3,7 +3,7 @@ ghost use Rattle.std.specs.Prelude.{◌≡◌, ◌==◌, ◌<◌, ◌≤◌, ◌
 ghost use Rattle.std.specs.List.{position};
 ghost use Rattle.std.specs.Option.{option_copied};
 ghost use Rattle.flow_key.specs.Words.{words_left};
-ghost use Rattle.scenario_lines.specs.Counts.{names_of};
+ghost use Rattle.lg_model.specs.Keeping.{names_of};
 ghost use Rattle.scenario_lines.specs.declared.section.Keyword.TheVariants as words;
 ghost use Rattle.scenario_lines.specs.Sections.{admits};
 ghost use Rattle.scenario_lines.specs.Draft.{view, FitsSoFar};
@@ -41,11 +41,11 @@ impl Draft {
     {
         let (name, text) = number_field(text, 0, 65535)?;
         let name = name as u16;
-        new_host(&self.hosts, name)?;
+        new_host(&self.parts.hosts, name)?;
         end_field(text)?;
-        room_for(MOST_HOSTS, self.hosts.len())?;
-        let letters = Letters::new(Vec::new(*self.hosts.allocator()));
-        self.hosts.push(HostLine { name, letters })?;
+        room_for(MOST_HOSTS, self.parts.hosts.len())?;
+        let letters = Letters::new(Vec::new(*self.parts.hosts.allocator()));
+        self.parts.hosts.push(HostLine { name, letters })?;
         Ok(())
     }
 
@@ -60,19 +60,19 @@ impl Draft {
     {
         let (name, text) = number_field(text, 0, 65535)?;
         let name = name as u16;
-        fresh_name(&self.switches, name)?;
+        fresh_name(&self.parts.switches, name)?;
         end_field(text)?;
-        room_for(MOST_SWITCHES, self.switches.len())?;
-        self.switches.push(name)?;
+        room_for(MOST_SWITCHES, self.parts.switches.len())?;
+        self.parts.switches.push(name)?;
         Ok(())
     }
 
     #[tactic(auto, unfolding(crate::specs::Fields::fresh_flow))]
     fn new_flow(&self, name: u16) -> Result<(), LineFault>
-        ensures gives { GivesField (λ x. x) result (fresh_flow self.now.flows.items name) }
-        ensures fresh { OnOk result (position (λ m. m == name) (names_of self.now.flows.items) ≡ None) }
+        ensures gives { GivesField (λ x. x) result (fresh_flow self.now.parts.flows.items name) }
+        ensures fresh { OnOk result (position (λ m. m == name) (names_of self.now.parts.flows.items) ≡ None) }
     {
-        match find_flow(&self.flows, &self.flow_positions, name) {
+        match find_flow(&self.parts.flows, &self.flow_positions, name) {
             None => Ok(()),
             Some(_) => Err(LineFault::Bad(Why::Repeated)),
         }
@@ -93,10 +93,10 @@ impl Draft {
         let text = word_field(text, b"host")?;
         let (host, text) = number_field(text, 0, 65535)?;
         let host = host as u16;
-        let host_at = host_at(&self.hosts, host)?;
+        let host_at = host_at(&self.parts.hosts, host)?;
         let text = word_field(text, b"path")?;
-        let hops = path_field(*self.flows.allocator(), &self.switches, text)?;
-        room_for(MOST_FLOWS, self.flows.len())?;
+        let hops = path_field(*self.parts.flows.allocator(), &self.parts.switches, text)?;
+        room_for(MOST_FLOWS, self.parts.flows.len())?;
         let path = Path::new(hops);
         let flow = Flow {
             name,
@@ -104,15 +104,15 @@ impl Draft {
             host_at,
             path,
         };
-        push_flow(&mut self.flows, &mut self.flow_positions, flow)?;
+        push_flow(&mut self.parts.flows, &mut self.flow_positions, flow)?;
         Ok(())
     }
 
     #[tactic(auto, unfolding(crate::specs::Line::unlinked))]
     fn unlinked_host(&self, at: u16) -> Result<(), LineFault>
-        ensures { GivesField (λ x. x) result (unlinked self.now.hosts.items at) }
+        ensures { GivesField (λ x. x) result (unlinked self.now.parts.hosts.items at) }
     {
-        match self.hosts.get(at as usize) {
+        match self.parts.hosts.get(at as usize) {
             None => Err(LineFault::Bad(Why::UnknownName)),
             Some(host) => {
                 if host.letters.items().len() == 0 {
@@ -134,11 +134,11 @@ impl Draft {
     {
         let (host, text) = number_field(text, 0, 65535)?;
         let host = host as u16;
-        let at = host_at(&self.hosts, host)?;
+        let at = host_at(&self.parts.hosts, host)?;
         self.unlinked_host(at)?;
-        let (letters, text) = letters_field(*self.hosts.allocator(), text)?;
+        let (letters, text) = letters_field(*self.parts.hosts.allocator(), text)?;
         end_field(text)?;
-        set_letters(&mut self.hosts, at, letters);
+        set_letters(&mut self.parts.hosts, at, letters);
         Ok(())
     }
 }

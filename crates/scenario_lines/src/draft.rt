@@ -4,11 +4,11 @@ ghost use Rattle.lg_model.specs.declared.limits.TheConstants.{MOST_HOSTS, MOST_S
 ghost use Rattle.lg_model.specs.Scenario.{packet_count};
 ghost use Rattle.scenario_lines.specs.Sections.{is_done};
 ghost use Rattle.scenario_lines.specs.Index.{IsIndexed};
-ghost use Rattle.scenario_lines.specs.Counts.{names_of, ends_of};
+ghost use Rattle.lg_model.specs.Keeping.{names_of, ends_of};
 
 use crate::section::Section;
 use lg_model::limits::MOST_SWITCHES;
-use lg_model::{Ask, Flow, Hash, HostLine, Pick, Step};
+use lg_model::Parts;
 
 /// What the lines of a text have said so far: the section and the parts, and what is kept to take the next line
 /// without looking through them.
@@ -16,24 +16,8 @@ use lg_model::{Ask, Flow, Hash, HostLine, Pick, Step};
 pub struct Draft {
     /// The section that the next line stands in.
     pub section: Section,
-    /// The rows of the shape.
-    pub rows: u8,
-    /// The buckets of a row.
-    pub width: u16,
-    /// How the places of flows are found.
-    pub hash: Hash,
-    /// How switches choose columns.
-    pub pick: Pick,
-    /// The hosts, in the order of the text.
-    pub hosts: Vec<HostLine>,
-    /// The switches' names.
-    pub switches: Vec<u16>,
-    /// The flows.
-    pub flows: Vec<Flow>,
-    /// The steps.
-    pub steps: Vec<Step>,
-    /// The asks.
-    pub asks: Vec<Ask>,
+    /// The parts that were said.
+    pub parts: Parts,
     /// The position of each flow, at its name.
     pub flow_positions: Vec<u16>,
     /// The packets of the steps.
@@ -42,13 +26,13 @@ pub struct Draft {
     pub ends: [u64; MOST_SWITCHES],
     /// How many steps end an epoch of every switch.
     pub ends_of_all: u64,
-    pub ghost few_hosts: { vec_len hosts ≤ MOST_HOSTS },
-    pub ghost few_switches: { vec_len switches ≤ MOST_SWITCHES },
-    pub ghost few_flows: { vec_len flows ≤ MOST_FLOWS },
-    pub ghost indexed: { IsIndexed (names_of flows.items) flow_positions.items },
-    pub ghost counted: { packets ≡ packet_count steps.items },
+    pub ghost few_hosts: { vec_len parts.hosts ≤ MOST_HOSTS },
+    pub ghost few_switches: { vec_len parts.switches ≤ MOST_SWITCHES },
+    pub ghost few_flows: { vec_len parts.flows ≤ MOST_FLOWS },
+    pub ghost indexed: { IsIndexed (names_of parts.flows.items) flow_positions.items },
+    pub ghost counted: { packets ≡ packet_count parts.steps.items },
     pub ghost few_packets: { packets ≤ MOST_PACKETS },
-    pub ghost ended: { (i : ℕ) → i < MOST_SWITCHES → slice_index ends i + ends_of_all ≡ ends_of i steps.items },
+    pub ghost ended: { (i : ℕ) → i < MOST_SWITCHES → slice_index ends i + ends_of_all ≡ ends_of i parts.steps.items },
 }
 
 impl Draft {

@@ -5,7 +5,7 @@ ghost use Rattle.std.specs.Option.{option_copied};
 ghost use Rattle.flow_key.specs.Words.{words_left};
 ghost use Rattle.text_out.specs.Shapes.{hash_words};
 ghost use Rattle.scenario_lines.specs.Spelling.{size, pick_words};
-ghost use Rattle.scenario_lines.specs.Readable.{IsHashRange, IsPickRange};
+ghost use Rattle.lg_model.specs.Ranges.{IsHashRange, IsPickRange};
 ghost use Rattle.scenario_lines.specs.Fields.{GivesField, number, word, no_more, room, room_to, hash, pick};
 
 use crate::fault::LineFault;

@@ -4,7 +4,9 @@ ghost use Rattle.std.specs.Option.{option_copied};
 ghost use Rattle.flow_key.specs.Words.{words_left};
 ghost use Rattle.scenario_lines.specs.declared.section.Keyword.TheVariants as words;
 ghost use Rattle.scenario_lines.specs.Sections.{is_first, admits};
-ghost use Rattle.scenario_lines.specs.Draft.{view, start, FitsSoFar};
+ghost use Rattle.lg_model.specs.Placing.{IsShape};
+ghost use Rattle.lg_model.specs.Scenario.{scenario_of};
+ghost use Rattle.scenario_lines.specs.Draft.{view, no_parts, start, FitsSoFar};
 ghost use Rattle.scenario_lines.specs.Fields.{LeavesState};
 ghost use Rattle.scenario_lines.specs.Spelling.{size};
 ghost use Rattle.scenario_lines.specs.PrintedLen.{printed_len};
@@ -17,8 +19,34 @@ use crate::section::Section;
 use crate::why::Why;
 use flow_key::words::is;
 use lg_model::limits::{MOST_ROWS, MOST_SWITCHES, MOST_WIDTH};
-use lg_model::{Hash, Pick};
+use lg_model::{Hash, Parts, Pick, Shape};
 use std::alloc::Global;
+
+// A shape whose rows and width are in range.
+fn shape_of(rows: u8, width: u16, hash: Hash) -> Shape
+    requires { IsShape rows width }
+    ensures { result ≡ record { rows = rows; width = width; hash = hash } }
+{
+    match Shape::new(rows, width, hash) {
+        None => unreachable!(),
+        Some(shape) => shape,
+    }
+}
+
+// The parts before the first line.
+fn no_parts(alloc: Global) -> Parts
+    ensures { scenario_of result ≡ no_parts }
+{
+    Parts {
+        shape: shape_of(1, 1, Hash::Ports),
+        pick: Pick::Turns,
+        hosts: Vec::new(alloc),
+        switches: Vec::new(alloc),
+        flows: Vec::new(alloc),
+        steps: Vec::new(alloc),
+        asks: Vec::new(alloc),
+    }
+}
 
 impl Draft {
     /// Before the first line. Takes no memory yet; the parts will lie in memory of this allocator.
@@ -28,15 +56,7 @@ impl Draft {
     {
         Draft {
             section: Section::Version,
-            rows: 1,
-            width: 1,
-            hash: Hash::Ports,
-            pick: Pick::Turns,
-            hosts: Vec::new(alloc),
-            switches: Vec::new(alloc),
-            flows: Vec::new(alloc),
-            steps: Vec::new(alloc),
-            asks: Vec::new(alloc),
+            parts: no_parts(alloc),
             flow_positions: Vec::new(alloc),
             packets: 0,
             ends: [0; MOST_SWITCHES],
@@ -74,9 +94,7 @@ impl Draft {
         let (hash, text) = hash_field(text)?;
         end_field(text)?;
         self.section = Section::Pick;
-        self.rows = rows as u8;
-        self.width = width as u16;
-        self.hash = hash;
+        self.parts.shape = shape_of(rows as u8, width as u16, hash);
         Ok(())
     }
 
@@ -92,7 +110,7 @@ impl Draft {
         let (pick, text) = pick_field(text)?;
         end_field(text)?;
         self.section = Section::Declarations;
-        self.pick = pick;
+        self.parts.pick = pick;
         Ok(())
     }
 

@@ -2,7 +2,7 @@
 ghost use Rattle.std.specs.Prelude.{◌≡◌, ◌<◌, ◌≤◌, ◌==◌, length, ◌++◌, ◌∷◌, [], None, IfSome, OnOk, OnErr, take, slice_index};
 ghost use Rattle.std.specs.List.{position};
 ghost use Rattle.lg_model.specs.declared.limits.TheConstants.{MOST_FLOWS};
-ghost use Rattle.scenario_lines.specs.Counts.{names_of};
+ghost use Rattle.lg_model.specs.Keeping.{names_of};
 ghost use Rattle.scenario_lines.specs.Index.{IsIndexed};
 
 use lg_model::Flow;

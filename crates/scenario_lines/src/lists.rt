@@ -6,7 +6,7 @@ ghost use Rattle.std.specs.Option.{option_copied};
 ghost use Rattle.flow_key.specs.Words.{words_left};
 ghost use Rattle.lg_model.specs.declared.limits.TheConstants.{MOST_HOPS, MOST_LETTERS};
 ghost use Rattle.scenario_lines.specs.Spelling.{size, path_words};
-ghost use Rattle.scenario_lines.specs.Readable.{AreApart};
+ghost use Rattle.lg_model.specs.Keeping.{AreApart};
 ghost use Rattle.scenario_lines.specs.Fields.{GivesField, number, hop, path, is_letter, letter_of, letters_word, delays};
 
 use crate::fault::LineFault;
@@ -16,6 +16,7 @@ use crate::why::Why;
 use flow_key::words;
 use lg_model::limits::{MOST_HOPS, MOST_LETTERS};
 use lg_model::{Letter, Letters};
+use smallvec::SmallVec;
 use std::alloc::Global;
 
 #[tactic(auto, unfolding(crate::specs::Fields::number))]
@@ -149,13 +150,13 @@ pub(crate) fn delays_field<'a>(
     alloc: Global,
     path: &[u16],
     text: Option<&'a [u8]>,
-) -> Result<(Vec<u32>, Option<&'a [u8]>), LineFault>
+) -> Result<(SmallVec<u32, 4>, Option<&'a [u8]>), LineFault>
     ensures taken { IfOk result (λ x. size (map decimal x.0.items) + size (words_left 32 (option_copied x.1)) ≡ size (words_left 32 (option_copied text.entry))) }
     ensures count { IfOk result (λ x. length x.0.items ≡ length path.now) }
     ensures small { IfOk result (λ x. All (λ d. d < 4294967296) x.0.items) }
     ensures gives { GivesField (λ x. (x.0.items, words_left 32 (option_copied x.1))) result (delays path.now [] (words_left 32 (option_copied text.entry))) }
 {
-    let mut delays: Vec<u32> = Vec::with_capacity(alloc, path.len())?;
+    let mut delays: SmallVec<u32, 4> = SmallVec::with_capacity(alloc, path.len())?;
     let mut left = text;
     for _ in path {
         let (delay, rest) = number_field(left, 0, 4294967295)?;

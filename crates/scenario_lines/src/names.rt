@@ -2,7 +2,7 @@
 ghost use Rattle.std.specs.Prelude.{◌≡◌, ◌≤◌, ◌<◌, ◌==◌, length, slice_index, true, false, IfOk, IfSome, OnOk};
 ghost use Rattle.std.specs.List.{position, list_any};
 ghost use Rattle.lg_model.specs.declared.limits.TheConstants.{MOST_HOSTS};
-ghost use Rattle.scenario_lines.specs.Spelling.{host_names};
+ghost use Rattle.lg_model.specs.Keeping.{host_names};
 ghost use Rattle.scenario_lines.specs.Fields.{GivesField, fresh_name, known_name, position_of, fresh_host, host_position};
 
 use crate::fault::LineFault;

@@ -3,7 +3,8 @@ ghost use Rattle.std.specs.Prelude.{◌≡◌, ◌<◌, ◌≤◌, ◌+◌, IfOk
 ghost use Rattle.std.specs.Option.{option_copied};
 ghost use Rattle.flow_key.specs.Words.{words_left};
 ghost use Rattle.lg_model.specs.declared.limits.TheConstants.{MOST_SWITCHES, MOST_HOPS};
-ghost use Rattle.scenario_lines.specs.Counts.{names_of, path_at, ends_of};
+ghost use Rattle.lg_model.specs.Keeping.{names_of, ends_of};
+ghost use Rattle.lg_model.specs.Scenario.{path_at};
 ghost use Rattle.scenario_lines.specs.declared.section.Keyword.TheVariants as words;
 ghost use Rattle.scenario_lines.specs.Sections.{admits};
 ghost use Rattle.scenario_lines.specs.Draft.{view, FitsSoFar};
@@ -29,11 +30,11 @@ use lg_model::{Ask, Delays, Step};
 impl Draft {
     #[tactic(auto, unfolding(crate::specs::Fields::position_of))]
     fn flow_at(&self, name: u16) -> Result<u16, LineFault>
-        ensures gives { GivesField (λ x. x) result (position_of (names_of self.now.flows.items) name) }
-        ensures bound { IfOk result (λ i. i < length self.now.flows.items) }
-        ensures named { IfOk result (λ i. slice_index (names_of self.now.flows.items) i ≡ name) }
+        ensures gives { GivesField (λ x. x) result (position_of (names_of self.now.parts.flows.items) name) }
+        ensures bound { IfOk result (λ i. i < length self.now.parts.flows.items) }
+        ensures named { IfOk result (λ i. slice_index (names_of self.now.parts.flows.items) i ≡ name) }
     {
-        match find_flow(&self.flows, &self.flow_positions, name) {
+        match find_flow(&self.parts.flows, &self.flow_positions, name) {
             None => Err(LineFault::Bad(Why::UnknownName)),
             Some(at) => Ok(at),
         }
@@ -42,11 +43,11 @@ impl Draft {
     // The path of the flow at a position.
     fn path_of(&self, at: u16) -> &[u16]
         requires fits { FitsSoFar self.now }
-        requires here { at < length self.now.flows.items }
-        ensures value { result.now ≡ path_at self.now.flows.items at }
+        requires here { at < length self.now.parts.flows.items }
+        ensures value { result.now ≡ path_at self.now.parts.flows.items at }
         ensures short { length result.now ≤ MOST_HOPS }
     {
-        self.flows[at as usize].path.items()
+        self.parts.flows[at as usize].path.items()
     }
 
     // The rest of a `packet` line.
@@ -64,13 +65,13 @@ impl Draft {
         let size = size as u16;
         let path = self.path_of(flow_at);
         let hops = path.len();
-        let (delays, text) = delays_field(*self.steps.allocator(), path, text)?;
+        let (delays, text) = delays_field(*self.parts.steps.allocator(), path, text)?;
         let (burst, text) = burst_field(text)?;
         let fate = fate_field(hops, text)?;
         let packets = self.packets + burst;
         room_up_to(MOST_PACKETS, packets)?;
-        let delays = Delays::new(delays);
-        self.steps.push(Step::Packet {
+        let delays = Delays::of_few(delays);
+        self.parts.steps.push(Step::Packet {
             flow_at,
             size,
             delays,
@@ -85,7 +86,7 @@ impl Draft {
     // How many epochs of the switch at a position have ended.
     fn ends_at(&self, at: usize) -> u64
         requires { at < MOST_SWITCHES }
-        ensures { result ≡ ends_of at self.now.steps.items }
+        ensures { result ≡ ends_of at self.now.parts.steps.items }
     {
         self.ends[at] + self.ends_of_all
     }
@@ -93,7 +94,7 @@ impl Draft {
     // Whether each of the first switches may end an epoch more.
     fn has_room(&self, switches: usize) -> bool
         requires { switches ≤ MOST_SWITCHES }
-        ensures { result ≡ all_room self.now.steps.items switches }
+        ensures { result ≡ all_room self.now.parts.steps.items switches }
     {
         if switches == 0 {
             true
@@ -114,13 +115,13 @@ impl Draft {
     {
         let (switch, text) = number_field(text, 0, 65535)?;
         let switch = switch as u16;
-        let switch_at = position_of(&self.switches, switch)?;
+        let switch_at = position_of(&self.parts.switches, switch)?;
         end_field(text)?;
         room_for(
             MOST_ENDS as usize,
             self.ends_at(switch_at as usize) as usize,
         )?;
-        self.steps.push(Step::End { switch_at })?;
+        self.parts.steps.push(Step::End { switch_at })?;
         self.ends[switch_at as usize] += 1;
         self.section = Section::Steps;
         Ok(())
@@ -135,10 +136,10 @@ impl Draft {
         ensures printed_len { OnOk result (printed_len (view self.new) ≤ printed_len (view self.old) + (8 + size (words_left 32 (option_copied text.entry)))) }
     {
         end_field(text)?;
-        if !self.has_room(self.switches.len()) {
+        if !self.has_room(self.parts.switches.len()) {
             return Err(LineFault::Bad(Why::TooMany));
         }
-        self.steps.push(Step::EndAll)?;
+        self.parts.steps.push(Step::EndAll)?;
         self.ends_of_all += 1;
         self.section = Section::Steps;
         Ok(())
@@ -174,7 +175,7 @@ impl Draft {
         ensures printed_len { OnOk result (printed_len (view self.new) ≤ printed_len (view self.old) + (8 + size (words_left 32 (option_copied text.entry)))) }
     {
         end_field(text)?;
-        self.steps.push(Step::Release)?;
+        self.parts.steps.push(Step::Release)?;
         self.section = Section::Steps;
         Ok(())
     }
@@ -192,13 +193,13 @@ impl Draft {
         let flow_at = self.flow_at(flow as u16)?;
         let (switch, text) = number_field(text, 0, 65535)?;
         let switch = switch as u16;
-        known_name(&self.switches, switch)?;
+        known_name(&self.parts.switches, switch)?;
         let (epoch, text) = number_field(text, 0, 4294967295)?;
         let epoch = epoch as u32;
         end_field(text)?;
-        room_for(MOST_ASKS, self.asks.len())?;
+        room_for(MOST_ASKS, self.parts.asks.len())?;
         self.section = Section::Steps;
-        self.asks.push(Ask {
+        self.parts.asks.push(Ask {
             flow_at,
             switch,
             epoch,

@@ -9,10 +9,9 @@ use Rattle.lg_model.specs.declared.scenario.Fate.{Fate}
 use Rattle.lg_model.specs.declared.scenario.Fate.TheVariants as fates
 use Rattle.lg_model.specs.declared.scenario.Step.{Step}
 use Rattle.lg_model.specs.declared.scenario.Step.TheVariants.{Packet, EndAll}
-use Rattle.lg_model.specs.Scenario.{IsStep, flow_at, reached}
-use Rattle.scenario_lines.specs.Counts.{names_of}
+use Rattle.lg_model.specs.Keeping.{IsStep, names_of}
+use Rattle.lg_model.specs.Scenario.{flow_at, reached}
 use Rattle.scenario_lines.specs.Spelling.{size, burst_words, fate_words, step_words}
-use Rattle.scenario_lines.specs.Readable.{IsStepLine}
 use Rattle.scenario_lines.proofs.SizeLemmas.{size_append}
 use Rattle.scenario_make.specs.Generator.{generated_switches, flow_names, generated_flows, burst_number, size_of, delay_of, fate_of, generated_burst, generated_end, generated_round, last_burst, generated_rounds, generated_steps}
 use Rattle.scenario_make.proofs.Lists.{of_each_flow, of_all_pieces}
@@ -20,7 +19,6 @@ use Rattle.scenario_make.proofs.Lists.{of_each_flow, of_all_pieces}
 -- A step of a generated scenario: it fits what is declared, can be read again, and its line has at most 1,000 bytes.
 pub record IsFine (t : Step) : Type 0 where
   pub fits : IsStep 4 generated_flows t
-  pub line : IsStepLine t
   pub short : size (step_words generated_flows generated_switches t) ≤ 1000
 
 -- A fate that reaches no more than the three hops, and whose words are short.
@@ -61,8 +59,14 @@ delays_fit a b c da db dc =
 burst_fine : (at name bytes a b c burst : ℕ) (x : Fate) → IsAt at name → bytes < 65536 → a < 1000 → b < 1000 → c < 1000 → 1 ≤ burst →
     size (burst_words burst) ≤ 20 → IsFineFate x → IsFine (Packet at bytes (a ∷ b ∷ c ∷ []) burst x)
 burst_fine at name bytes a b c burst x is small da db dc some words fine = record {
-  fits = (is.inside, is.hops, subst (λ n. reached x n ≤ n) is.hops fine.reaches);
-  line = (small, delays_fit a b c da db dc, some);
+  fits = record {
+    flow = is.inside;
+    size = small;
+    each_delay = delays_fit a b c da db dc;
+    hops = is.hops;
+    reach = subst (λ n. reached x n ≤ n) is.hops fine.reaches;
+    some = some;
+  };
   short =
       let named : length (decimal (slice_index (names_of generated_flows) at)) ≤ 5 =
       subst (λ n. length (decimal n) ≤ 5) (sym is.named) (short_number name is.low) in
@@ -124,7 +128,7 @@ last_bursts_fine = All-map IsFine last_burst flow_names (each_flow (λ f. IsFine
         subst (λ k. IsFine (Packet k 64 (1 ∷ 1 ∷ 1 ∷ []) 32 fates.Straight)) (sym (position at f next)) (last_burst_fine at f is)
 
 end_fine : (b : Bool) → All IsFine (if b then EndAll ∷ [] else [])
-end_fine true = All-cons IsFine EndAll [] (record { fits = tt; line = tt; short = omega arith }) (All-nil IsFine)
+end_fine true = All-cons IsFine EndAll [] (record { fits = tt; short = omega arith }) (All-nil IsFine)
 end_fine false = All-nil IsFine
 
 round_fine : (n r : ℕ) → All IsFine (generated_round n r)

@@ -1,5 +1,5 @@
 -- The hosts, the switches, the flows and the asks of generated scenarios fit each other.
-use Rattle.std.specs.Prelude.{◌≡◌, ◌≢◌, ◌==◌, ℕ, ◌+◌, ◌<◌, ◌%◌, true, [], ◌∷◌, length, All, slice_index_or}
+use Rattle.std.specs.Prelude.{◌≡◌, ◌≢◌, ◌==◌, ℕ, ◌+◌, ◌<◌, ◌%◌, true, [], ◌∷◌, length, All}
 use Rattle.std.specs.List.{list_any, range_with_len}
 use Rattle.std.proofs.Common.{refl, arith}
 use Rattle.std.proofs.Math.Nat.{mod-lt}
@@ -8,10 +8,7 @@ use Rattle.std.proofs.lemmas.List.FromFn.{get_or-range_with_len, length-range_wi
 use Rattle.std.proofs.lemmas.List.Kept.{AllPairs-cons}
 use Rattle.lg_model.specs.declared.scenario.HostLine.{HostLine}
 use Rattle.lg_model.specs.declared.scenario.Letter.TheVariants as letters
-use Rattle.lg_model.specs.Scenario.{IsFlow, IsAsk}
-use Rattle.scenario_lines.specs.Counts.{names_of}
-use Rattle.scenario_lines.specs.Spelling.{host_names}
-use Rattle.scenario_lines.specs.Readable.{AreApart, IsHostLine, IsFlowLine, IsAskLine}
+use Rattle.lg_model.specs.Keeping.{IsFlow, IsAsk, names_of, host_names, AreApart, IsHost}
 use Rattle.scenario_make.specs.Generator.{generated_hosts, generated_switches, flow_names, generated_flow, generated_flows, generated_ask, generated_asks}
 use Rattle.scenario_make.proofs.Lists.{of_each_flow}
 
@@ -34,12 +31,12 @@ own_flows = row_apart 1 8
 
 -- ---- hosts and switches
 
-pub hosts_fit : All IsHostLine generated_hosts
+pub hosts_fit : All IsHost generated_hosts
 hosts_fit =
     let one : HostLine = record { name = 1; letters = letters.Lose ∷ letters.LoseReply ∷ letters.Twice ∷ letters.Hold ∷ [] } in
     let two : HostLine = record { name = 2; letters = letters.Hold ∷ letters.Deliver ∷ letters.Lose ∷ letters.LoseReply ∷ [] } in
-    All-cons IsHostLine one (two ∷ []) (record { name = omega arith; few_letters = omega arith })
-    (All-cons IsHostLine two [] (record { name = omega arith; few_letters = omega arith }) (All-nil IsHostLine))
+    All-cons IsHost one (two ∷ []) (record { name = omega arith; few_letters = omega arith })
+    (All-cons IsHost two [] (record { name = omega arith; few_letters = omega arith }) (All-nil IsHost))
 
 pub switches_fit : All (λ n. n < 65536) generated_switches
 switches_fit =
@@ -63,19 +60,8 @@ three_apart a b c ab ac bc =
     none : AreApart []
     none i j d less low same = omega (arith, low)
 
-flow_fits : (f : ℕ) → IsFlow 2 4 (generated_flow f)
-flow_fits f = record {
-  host = mod-lt f (omega arith);
-  path = three (λ s. s < 4) (f % 4) ((f + 1) % 4) ((f + 2) % 4) (mod-lt f (omega arith)) (mod-lt (f + 1) (omega arith)) (mod-lt (f + 2) (omega arith));
-  some_hops = omega arith;
-  few_hops = omega arith;
-}
-
-pub flows_fit : All (IsFlow (length generated_hosts) (length generated_switches)) generated_flows
-flows_fit = All-map (IsFlow 2 4) generated_flow flow_names (λ k d lt. flow_fits (slice_index_or flow_names k d))
-
-flow_line : (f : ℕ) → f < 256 → IsFlowLine (generated_flow f)
-flow_line f low = record {
+flow_fits : (f : ℕ) → f < 256 → IsFlow 2 4 (generated_flow f)
+flow_fits f low = record {
   name = omega (arith, low);
   key = record {
     src = record { four = refl; bytes = four (λ n. n < 256) 10 0 0 f (omega arith) (omega arith) (omega arith) low };
@@ -84,23 +70,26 @@ flow_line f low = record {
     sport = omega (arith, low);
     dport = omega arith;
   };
+  host = mod-lt f (omega arith);
+  path = three (λ s. s < 4) (f % 4) ((f + 1) % 4) ((f + 2) % 4) (mod-lt f (omega arith)) (mod-lt (f + 1) (omega arith)) (mod-lt (f + 2) (omega arith));
+  some_hops = omega arith;
+  few_hops = omega arith;
   once = three_apart (f % 4) ((f + 1) % 4) ((f + 2) % 4) (λ e. omega (arith, e)) (λ e. omega (arith, e)) (λ e. omega (arith, e));
 }
 
-pub flow_lines : All IsFlowLine generated_flows
-flow_lines = All-map IsFlowLine generated_flow flow_names (of_each_flow (λ f. IsFlowLine (generated_flow f))
-    (flow_line 1 (omega arith)) (flow_line 2 (omega arith)) (flow_line 3 (omega arith)) (flow_line 4 (omega arith))
-    (flow_line 5 (omega arith)) (flow_line 6 (omega arith)) (flow_line 7 (omega arith)) (flow_line 8 (omega arith)))
+pub flows_fit : All (IsFlow (length generated_hosts) (length generated_switches)) generated_flows
+flows_fit = All-map (IsFlow 2 4) generated_flow flow_names (of_each_flow (λ f. IsFlow 2 4 (generated_flow f))
+    (flow_fits 1 (omega arith)) (flow_fits 2 (omega arith)) (flow_fits 3 (omega arith)) (flow_fits 4 (omega arith))
+    (flow_fits 5 (omega arith)) (flow_fits 6 (omega arith)) (flow_fits 7 (omega arith)) (flow_fits 8 (omega arith)))
 
 -- ---- asks
 
-pub asks_fit : All (IsAsk generated_flows) generated_asks
-asks_fit = All-map (IsAsk generated_flows) generated_ask flow_names (of_each_flow (λ f. IsAsk generated_flows (generated_ask f))
-    (omega arith) (omega arith) (omega arith) (omega arith) (omega arith) (omega arith) (omega arith) (omega arith))
+ask_fits : (f : ℕ) → (generated_ask f).flow_at < length generated_flows → list_any (λ m. m == 1 + f % 4) generated_switches ≡ true
+    → IsAsk generated_switches generated_flows (generated_ask f)
+ask_fits f inside known = record { flow = inside; declared = known; switch = omega arith; epoch = omega arith }
 
-ask_line : (f : ℕ) → list_any (λ m. m == 1 + f % 4) generated_switches ≡ true → IsAskLine generated_switches (generated_ask f)
-ask_line f known = record { declared = known; switch = omega arith; epoch = omega arith }
-
-pub ask_lines : All (IsAskLine generated_switches) generated_asks
-ask_lines = All-map (IsAskLine generated_switches) generated_ask flow_names (of_each_flow (λ f. IsAskLine generated_switches (generated_ask f))
-    (ask_line 1 refl) (ask_line 2 refl) (ask_line 3 refl) (ask_line 4 refl) (ask_line 5 refl) (ask_line 6 refl) (ask_line 7 refl) (ask_line 8 refl))
+pub asks_fit : All (IsAsk generated_switches generated_flows) generated_asks
+asks_fit = All-map (IsAsk generated_switches generated_flows) generated_ask flow_names
+    (of_each_flow (λ f. IsAsk generated_switches generated_flows (generated_ask f))
+    (ask_fits 1 (omega arith) refl) (ask_fits 2 (omega arith) refl) (ask_fits 3 (omega arith) refl) (ask_fits 4 (omega arith) refl)
+    (ask_fits 5 (omega arith) refl) (ask_fits 6 (omega arith) refl) (ask_fits 7 (omega arith) refl) (ask_fits 8 (omega arith) refl))

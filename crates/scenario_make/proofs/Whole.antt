@@ -16,7 +16,7 @@ use Rattle.scenario_parts.specs.Printed.{text_of}
 use Rattle.scenario_parts.proofs.LengthLemmas.{text_size}
 use Rattle.scenario_make.specs.Generator.{generated, generated_shape, generated_hosts, generated_switches, generated_flows, generated_asks, flow_names, generated_burst, generated_end, generated_round, last_burst, generated_rounds, generated_steps, IsGenerated}
 use Rattle.scenario_make.proofs.Lists.{length_of_pieces, sum_of_pieces}
-use Rattle.scenario_make.proofs.Declarations.{own_hosts, own_switches, own_flows, hosts_fit, switches_fit, flows_fit, flow_lines, asks_fit, ask_lines}
+use Rattle.scenario_make.proofs.Declarations.{own_hosts, own_switches, own_flows, hosts_fit, switches_fit, flows_fit, asks_fit}
 use Rattle.scenario_make.proofs.Bursts.{steps_fine}
 
 -- ---- how many steps and packets
@@ -70,29 +70,19 @@ text_len n low =
 pub generated_is : (n : ℕ) → n ≤ 1000 → IsGenerated n
 generated_is n low = record {
   whole = record {
-    fits = record {
+    scenario = record {
       shape = record { some_rows = omega arith; few_rows = omega arith; some_width = omega arith; few_width = omega arith };
-      few_hosts = omega arith;
-      few_switches = omega arith;
-      flows = flows_fit;
-      steps = λ k d lt. (steps_fine n k d lt).fits;
-      asks = asks_fit;
-      few_packets = omega (arith, packets n, low);
-      few_ends = λ s inside. omega (arith, count_by-le-length (is_end_of s) (generated_steps n), steps_len n, low);
-    };
-    lines = record {
       hash = omega (arith, low);
       pick = tt;
-      hosts = hosts_fit;
-      own_hosts = own_hosts;
-      switches = switches_fit;
-      own_switches = own_switches;
-      few_flows = omega arith;
-      flows = flow_lines;
-      own_flows = own_flows;
-      steps = λ k d lt. (steps_fine n k d lt).line;
-      few_asks = omega arith;
-      asks = ask_lines;
+      hosts = record { few = omega arith; each = hosts_fit; own = own_hosts };
+      switches = record { few = omega arith; each = switches_fit; own = own_switches };
+      flows = record { few = omega arith; each = flows_fit; own = own_flows };
+      steps = record {
+        each = λ k d lt. (steps_fine n k d lt).fits;
+        few_packets = omega (arith, packets n, low);
+        few_ends = λ s inside. omega (arith, count_by-le-length (is_end_of s) (generated_steps n), steps_len n, low);
+      };
+      asks = record { few = omega arith; each = asks_fit };
     };
     short = text_len n low;
   };

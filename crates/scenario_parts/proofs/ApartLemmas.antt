@@ -4,8 +4,8 @@ use Rattle.std.specs.Prelude.{Decides}
 use Rattle.std.specs.List.{list_any}
 use Rattle.std.proofs.lemmas.List.{take_all, take_more, take-map, get_or-map, get_or-take, length-map, length-take-le, get_or_default}
 use Rattle.std.proofs.lemmas.List.Folds.{list_any_none}
-use Rattle.scenario_lines.specs.Readable.{AreApart}
-use Rattle.scenario_lines.proofs.ReadableLemmas.{apart_push}
+use Rattle.lg_model.specs.Keeping.{AreApart}
+use Rattle.scenario_lines.proofs.NameLemmas.{apart_push}
 
 -- One name more, which none before it is.
 pub apart_more : (names : List ℕ) (i : ℕ) (n : ℕ) → i < length names → n ≡ get_or names i 0 → AreApart (take i names) → list_any (λ m. eqb m n) (take i names) ≡ false → AreApart (take (i + 1) names)

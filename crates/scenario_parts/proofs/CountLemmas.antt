@@ -7,7 +7,7 @@ use Rattle.std.proofs.lemmas.List.Sums.{count_by-le-length}
 use Rattle.lg_model.specs.declared.scenario.Step.{Step}
 use Rattle.lg_model.specs.declared.scenario.Step.TheVariants.{End}
 use Rattle.lg_model.specs.Scenario.{is_end_of}
-use Rattle.scenario_lines.specs.Counts.{ends_of}
+use Rattle.lg_model.specs.Keeping.{ends_of}
 use Rattle.scenario_lines.proofs.CountLemmas.{ends_more}
 use Rattle.scenario_parts.specs.Parts.{IsEndInRange}
 

@@ -1,5 +1,2 @@
-pub mod EachLemmas
 pub mod ApartLemmas
 pub mod CountLemmas
-pub mod LengthLemmas
-pub mod WholeLemmas

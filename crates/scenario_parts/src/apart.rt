@@ -1,9 +1,7 @@
 //! Whether names come twice.
 ghost use Rattle.std.specs.Prelude.{◌≡◌, ◌==◌, Decides};
 ghost use Rattle.std.specs.List.{list_any};
-ghost use Rattle.scenario_lines.specs.Counts.{names_of};
-ghost use Rattle.scenario_lines.specs.Spelling.{host_names};
-ghost use Rattle.scenario_lines.specs.Readable.{AreApart};
+ghost use Rattle.lg_model.specs.Keeping.{names_of, host_names, AreApart};
 
 use lg_model::{Flow, HostLine};
 

@@ -2,7 +2,7 @@
 ghost use Rattle.std.specs.Prelude.{◌≡◌, ◌+◌, ◌<◌, ◌≤◌, ℕ, All, length, slice_index, Decides};
 ghost use Rattle.lg_model.specs.declared.limits.TheConstants.{MOST_SWITCHES, MOST_PACKETS, MOST_ENDS};
 ghost use Rattle.lg_model.specs.Scenario.{burst_of, packet_count};
-ghost use Rattle.scenario_lines.specs.Counts.{ends_of};
+ghost use Rattle.lg_model.specs.Keeping.{ends_of};
 ghost use Rattle.scenario_parts.specs.Parts.{IsEndInRange};
 
 use lg_model::Step;

@@ -1,9 +1,9 @@
 //! Whether the parts fit each other, list by list.
 ghost use Rattle.std.specs.Prelude.{◌<◌, ◌≤◌, All, length, Decides};
 ghost use Rattle.std.specs.List.{list_all};
-ghost use Rattle.lg_model.specs.Scenario.{IsFlow, IsStep, IsAsk, reached};
-ghost use Rattle.scenario_lines.specs.Readable.{AreApart, IsHostLine, IsFlowLine, IsStepLine, IsAskLine};
-ghost use Rattle.scenario_parts.specs.Parts.{IsFlowRange, IsStepRange, IsAskRange};
+ghost use Rattle.lg_model.specs.Keeping.{IsFlow, IsStep, IsAsk, AreApart, IsHost};
+ghost use Rattle.lg_model.specs.Scenario.{reached};
+ghost use Rattle.lg_model.specs.Ranges.{IsFlowRange, IsStepRange, IsAskRange};
 
 use crate::apart::are_apart;
 use lg_model::limits::{MOST_HOPS, MOST_LETTERS};
@@ -12,7 +12,7 @@ use lg_model::{Ask, Fate, Flow, HostLine, Step};
 // Whether each host has at most 4,096 letters.
 pub(crate) fn hosts_fit(hosts: &[HostLine]) -> bool
     requires { All (λ h. h.name < 65536) hosts.now }
-    ensures { Decides result (All IsHostLine hosts.now) }
+    ensures { Decides result (All IsHost hosts.now) }
 {
     for host in hosts {
         if host.letters.items().len() > MOST_LETTERS {
@@ -31,7 +31,7 @@ fn are_within(path: &[u16], switches: usize) -> bool
 // Whether a flow's host is there, and its path goes by 1 to 16 switches that are, each once.
 fn is_flow(hosts: usize, switches: usize, flow: &Flow) -> bool
     requires { IsFlowRange flow.now }
-    ensures { Decides result (IsFlow hosts switches flow.now × IsFlowLine flow.now) }
+    ensures { Decides result (IsFlow hosts switches flow.now) }
 {
     let path = flow.path.items();
     (flow.host_at as usize) < hosts
@@ -43,7 +43,7 @@ fn is_flow(hosts: usize, switches: usize, flow: &Flow) -> bool
 
 pub(crate) fn flows_fit(hosts: usize, switches: usize, flows: &[Flow]) -> bool
     requires { All IsFlowRange flows.now }
-    ensures { Decides result (All (λ f. IsFlow hosts switches f × IsFlowLine f) flows.now) }
+    ensures { Decides result (All (IsFlow hosts switches) flows.now) }
 {
     for flow in flows {
         if !is_flow(hosts, switches, flow) {
@@ -66,7 +66,7 @@ fn is_fate(fate: Fate, hops: usize) -> bool
 // than there are.
 fn is_step(switches: usize, flows: &[Flow], step: &Step) -> bool
     requires { IsStepRange step.now }
-    ensures { Decides result (IsStep switches flows.now step.now × IsStepLine step.now) }
+    ensures { Decides result (IsStep switches flows.now step.now) }
 {
     match step {
         Step::Packet {
@@ -89,7 +89,7 @@ fn is_step(switches: usize, flows: &[Flow], step: &Step) -> bool
 
 pub(crate) fn steps_fit(switches: &[u16], flows: &[Flow], steps: &[Step]) -> bool
     requires { All IsStepRange steps.now }
-    ensures { Decides result (All (λ t. IsStep (length switches.now) flows.now t × IsStepLine t) steps.now) }
+    ensures { Decides result (All (IsStep (length switches.now) flows.now) steps.now) }
 {
     for step in steps {
         if !is_step(switches.len(), flows, step) {
@@ -102,14 +102,14 @@ pub(crate) fn steps_fit(switches: &[u16], flows: &[Flow], steps: &[Step]) -> boo
 // Whether an ask is about a flow that is there and a switch that is declared.
 fn is_ask(switches: &[u16], flows: &[Flow], ask: &Ask) -> bool
     requires { IsAskRange ask.now }
-    ensures { Decides result (IsAsk flows.now ask.now × IsAskLine switches.now ask.now) }
+    ensures { Decides result (IsAsk switches.now flows.now ask.now) }
 {
     (ask.flow_at as usize) < flows.len() && switches.contains(&ask.switch)
 }
 
 pub(crate) fn asks_fit(switches: &[u16], flows: &[Flow], asks: &[Ask]) -> bool
     requires { All IsAskRange asks.now }
-    ensures { Decides result (All (λ q. IsAsk flows.now q × IsAskLine switches.now q) asks.now) }
+    ensures { Decides result (All (IsAsk switches.now flows.now) asks.now) }
 {
     for ask in asks {
         if !is_ask(switches, flows, ask) {

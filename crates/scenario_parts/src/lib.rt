@@ -2,16 +2,11 @@
 //!
 //! | Item | What it is |
 //! |---|---|
-//! | [`Parts`] | a shape, a pick, and lists of hosts, switches, flows, steps and asks; tells whether they make a scenario |
+//! | [`is_whole`] | whether parts make a scenario |
 #![tactic(auto)]
 
 mod apart;
 mod counts;
 mod fits;
-mod lengths;
 mod lists;
-mod parts;
-mod ranges;
-mod sums;
-
-pub use parts::Parts;
+mod whole;

@@ -9,7 +9,7 @@ use Rattle.flow_key.specs.Words.{words_at}
 use Rattle.lg_model.specs.declared.limits.TheConstants.{MOST_TEXT_BYTES}
 use Rattle.scenario_lines.specs.declared.why.Why.{Why}
 use Rattle.scenario_lines.specs.Sections.{is_done}
-use Rattle.scenario_lines.specs.Draft.{State, start, scenario_of}
+use Rattle.scenario_lines.specs.Draft.{State, start}
 use Rattle.scenario_lines.specs.Line.{line_of}
 use Rattle.scenario_text.specs.Text.{after_line, after_len, lines_say, reading, decide, deciding_len, deciding}
 use Rattle.scenario_text.specs.Reading.{IsUnbroken}
@@ -53,7 +53,7 @@ Front xs = (b c : Bool) (n : ℕ) (s : State) → decide s (words_at 10 xs) < le
 -- after a line that was taken
 behind : (b c : Bool) (n : ℕ) (more : List ℕ) (t : State) (d : Bool) → is_done t.section ≡ d → Front more → cond d 0 (decide t (words_at 10 more)) < suc (length more)
     → (d ≡ false → decide t (words_at 10 more) < length more)
-    → cond d (Ok (scenario_of t)) (lines_say b n t (words_at 10 (take (cond d 0 (decide t (words_at 10 more))) more))) ≡ cond d (Ok (scenario_of t)) (lines_say c n t (words_at 10 more))
+    → cond d (Ok t.parts) (lines_say b n t (words_at 10 (take (cond d 0 (decide t (words_at 10 more))) more))) ≡ cond d (Ok t.parts) (lines_say c n t (words_at 10 more))
 behind b c n more t true e front lt less = refl
 behind b c n more t false e front lt less = front b c n t (less refl)
 

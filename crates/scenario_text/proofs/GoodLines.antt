@@ -1,5 +1,5 @@
 -- A line that spells a part is read only where the part fits those before it.
-use Rattle.std.proofs.Common.{◌≡◌, ℕ, suc, ◌+◌, ◌<◌, ◌≤◌, ◌^◌, ◌&&◌, Bool, true, false, cond, eqb, ltb, List, [], ◌∷◌, ◌++◌, length, length-append, map, Some, None, refl, sym, ap, ◌∙◌, arith, All, lit<, append_assoc}
+use Rattle.std.proofs.Common.{◌≡◌, ℕ, suc, ◌+◌, ◌<◌, ◌≤◌, ◌^◌, ◌&&◌, Bool, true, false, cond, eqb, ltb, List, [], ◌∷◌, ◌++◌, length, length-append, map, get_or, Some, None, refl, sym, ap, ◌∙◌, arith, All, lit<, append_assoc}
 use Rattle.std.specs.Prelude.{Option, Result, Ok, Err, codes, nat_lt, nat_le, slice_index}
 use Rattle.std.specs.List.{list_any, list_all, position_or_len}
 use Rattle.std.specs.Str.{bytes_eq}
@@ -18,21 +18,21 @@ use Rattle.lg_model.specs.declared.scenario.Fate.TheVariants as fates
 use Rattle.lg_model.specs.declared.scenario.Step.{Step}
 use Rattle.lg_model.specs.declared.scenario.Step.TheVariants as steps
 use Rattle.lg_model.specs.declared.scenario.Ask.{Ask}
-use Rattle.lg_model.specs.Scenario.{Scenario, IsFlow, no_flow, packet_count, reached}
+use Rattle.lg_model.specs.Keeping.{IsFlow, names_of, ends_of, AreApart, host_names}
+use Rattle.lg_model.specs.Scenario.{Scenario, no_flow, packet_count, reached, path_at}
 use Rattle.scenario_lines.specs.declared.why.Why.{Why}
 use Rattle.scenario_lines.specs.declared.section.Section.TheVariants.{Declarations, Steps}
 use Rattle.scenario_lines.specs.declared.section.Keyword.TheVariants as words
 use Rattle.scenario_lines.specs.Sections.{keyword_of}
-use Rattle.scenario_lines.specs.Counts.{names_of, path_at, ends_of}
-use Rattle.scenario_lines.specs.Readable.{AreApart, IsFlowLine}
 use Rattle.text_out.specs.Words.{Words, joined}
-use Rattle.scenario_lines.specs.Spelling.{host_words, switch_words, host_names, key_parts, path_words, flow_words, byte_of, link_words, burst_words, fate_words, step_words, ask_words}
+use Rattle.scenario_lines.specs.Spelling.{host_words, switch_words, key_parts, path_words, flow_words, byte_of, link_words, burst_words, fate_words, step_words, ask_words}
 use Rattle.scenario_lines.specs.Draft.{State, IsDraft}
 use Rattle.scenario_lines.specs.Fields.{◌>>=◌, number, word, no_more, fresh_name, known_name, position_of, fresh_host, fresh_flow, host_position, room, room_to, all_room, room_for_all, hop, path, is_letter, letters_word, delays, burst, fate}
 use Rattle.scenario_lines.specs.Line.{host_line, switch_line, flow_line, linked, unlinked, link_line, packet_line, end_one, end_all, end_line, ask_line, line_of}
-use Rattle.scenario_lines.proofs.ReadableLemmas.{apart_push}
-use Rattle.scenario_lines.proofs.ScenarioLemmas.{host_more, host_linked, switch_more, step_more, ask_more, end_fits, room_at}
-use Rattle.scenario_parts.specs.Parts.{IsFlowRange, IsFateRange, IsStepRange, IsAskRange, IsFlowInRange, IsStepInRange}
+use Rattle.scenario_lines.proofs.NameLemmas.{apart_push}
+use Rattle.scenario_lines.proofs.KeepingLemmas.{host_more, host_linked, switch_more, ask_kept, step_more, ask_more, end_fits, room_at}
+use Rattle.lg_model.specs.Ranges.{IsFlowRange, IsFateRange, IsStepRange, IsAskRange}
+use Rattle.scenario_parts.specs.Parts.{IsFlowInRange, IsStepInRange}
 use Rattle.scenario_text.proofs.WordsAgain.{AreWords, words_append, number_word_is, numbers_are_words, number_read}
 use Rattle.scenario_text.proofs.NamesAgain.{name_found, thing_found, list_any-map}
 use Rattle.scenario_text.proofs.LinesAgain.{at_state, section_of, form_read, bare, host_are_words, host_read, switch_are_words, switch_read, key_read, path_are_words, flow_are_words_of, FlowFits, flow_read, link_are_words, link_read, get_seam, set_seam, place_seam, later, placed, delays_read, burst_if, PacketFits, packet_read, flow_found, not_word, no_number, end_are_words, end_read, end_all_read, release_read, ask_are_words, ask_read}
@@ -170,33 +170,29 @@ new_flow flows n x h = by (list_any (λ m. eqb m n) (names_of flows)) refl where
       absurd (let bad = rw is at h in cc)
 
 -- One more flow fits where none has its name and there is room.
-flow_draft : (w : Scenario) (f : Flow) → IsDraft (at_state Declarations w) → IsFlow (length w.hosts) (length w.switches) f → IsFlowLine f → list_any (λ m. eqb m f.name) (names_of w.flows) ≡ false → length w.flows < 4096 → IsDraft (at_state Declarations (record w { flows = w.flows ++ f ∷ [] }))
-flow_draft w f ok fits line new few =
+flow_draft : (w : Scenario) (f : Flow) → IsDraft (at_state Declarations w) → IsFlow (length w.hosts) (length w.switches) f → list_any (λ m. eqb m f.name) (names_of w.flows) ≡ false → length w.flows < 4096
+    → IsDraft (at_state Declarations (record w { flows = w.flows ++ f ∷ [] }))
+flow_draft w f ok fits new few =
     let len = length-append w.flows (f ∷ []) in
+    let before = ok.scenario in
     record {
       scenario = record {
-        shape = ok.scenario.shape;
-        few_hosts = ok.scenario.few_hosts;
-        few_switches = ok.scenario.few_switches;
-        flows = All-push (IsFlow (length w.hosts) (length w.switches)) w.flows f ok.scenario.flows fits;
-        steps = rw (ok.no_steps refl) (λ i d lt. absurd (omega (arith, lt)));
-        asks = λ i d lt. omega (arith, ok.scenario.asks i d lt, len);
-        few_packets = ok.scenario.few_packets;
-        few_ends = ok.scenario.few_ends;
-      };
-      lines = record {
-        hash = ok.lines.hash;
-        pick = ok.lines.pick;
-        hosts = ok.lines.hosts;
-        own_hosts = ok.lines.own_hosts;
-        switches = ok.lines.switches;
-        own_switches = ok.lines.own_switches;
-        few_flows = omega (arith, len, few);
-        flows = All-push IsFlowLine w.flows f ok.lines.flows line;
-        own_flows = rw (map-append (λ (g : Flow). g.name) w.flows (f ∷ [])) (apart_push (names_of w.flows) f.name ok.lines.own_flows new);
-        steps = ok.lines.steps;
-        few_asks = ok.lines.few_asks;
-        asks = ok.lines.asks;
+        shape = before.shape;
+        hash = before.hash;
+        pick = before.pick;
+        hosts = before.hosts;
+        switches = before.switches;
+        flows = record {
+          few = omega (arith, len, few);
+          each = All-push (IsFlow (length w.hosts) (length w.switches)) w.flows f before.flows.each fits;
+          own = rw (map-append (λ (g : Flow). g.name) w.flows (f ∷ [])) (apart_push (names_of w.flows) f.name before.flows.own new);
+        };
+        steps = record {
+          each = rw (ok.no_steps refl) (λ i d lt. absurd (omega (arith, lt)));
+          few_packets = before.steps.few_packets;
+          few_ends = before.steps.few_ends;
+        };
+        asks = record { few = before.asks.few; each = λ i d lt. ask_kept w.switches w.flows (w.flows ++ f ∷ []) f (get_or w.asks i d) refl (before.asks.each i d lt) };
       };
       no_steps = ok.no_steps;
     }
@@ -205,29 +201,36 @@ pub flow_leads : (w : Scenario) (hosts : List HostLine) (f : Flow) → IsDraft (
 unfolding keyword_of flow_line host_position word
 flow_leads w hosts f ok names range within = (words_ok, read) where
   host : slice_index (host_names w.hosts) f.host_at < 65536
-  host = names_small (λ (g : HostLine). g.name) w.hosts (λ i d lt. let l = ok.lines.hosts i d lt in l.name) f.host_at 0 (omega (arith, within.0, length-map w.hosts (λ (g : HostLine). g.name)))
+  host = names_small (λ (g : HostLine). g.name) w.hosts (λ i d lt. let l = ok.scenario.hosts.each i d lt in l.name) f.host_at 0 (omega (arith, within.0, length-map w.hosts (λ (g : HostLine). g.name)))
 
   words_ok : AreWords (flow_words hosts w.switches f)
-  words_ok = flow_are_words_of w.switches f (slice_index (host_names hosts) f.host_at) (rw names at host) range.0 range.1 (path_are_words w.switches f.path ok.lines.switches within.1)
+  words_ok = flow_are_words_of w.switches f (slice_index (host_names hosts) f.host_at) (rw names at host) range.0 range.1 (path_are_words w.switches f.path ok.scenario.switches.each within.1)
 
   good : (u : State) → flow_line (at_state Declarations w) (decimal f.name ∷ key_parts f.key (codes "host" ∷ decimal (slice_index (host_names w.hosts) f.host_at) ∷ codes "path" ∷ path_words w.switches f.path)) ≡ Ok u → FlowFits w hosts f
   good u line =
       let at_host = codes "host" ∷ decimal (slice_index (host_names w.hosts) f.host_at) ∷ codes "path" ∷ path_words w.switches f.path in
       let named = rw (number_read 65535 f.name (key_parts f.key at_host) (lit< tt) (omega (arith, range.0))) at line in
       let fresh = both_read (fresh_flow w.flows f.name) _ u named in
-      let keyed = rw (key_read f.key at_host range.1, number_read 65535 (slice_index (host_names w.hosts) f.host_at) (codes "path" ∷ path_words w.switches f.path) (lit< tt) (omega (arith, host)), thing_found (λ (g : HostLine). g.name) w.hosts f.host_at ok.lines.own_hosts within.0) at fresh.2 in
-      let added : List ℕ → State = λ hops. record (at_state Declarations w) { flows = w.flows ++ record { name = f.name; key = f.key; host_at = f.host_at; path = hops } ∷ [] } in
+      let keyed = rw (key_read f.key at_host range.1, number_read 65535 (slice_index (host_names w.hosts) f.host_at) (codes "path" ∷ path_words w.switches f.path) (lit< tt) (omega (arith, host)), thing_found (λ (g : HostLine). g.name) w.hosts f.host_at ok.scenario.hosts.own within.0) at fresh.2 in
+      let added : List ℕ → State = λ hops. at_state Declarations (record w { flows = w.flows ++ record { name = f.name; key = f.key; host_at = f.host_at; path = hops } ∷ [] }) in
       let hops = both_read (path w.switches [] (path_words w.switches f.path)) (λ hops. room 4096 (length w.flows) >>= (λ fits. Ok (added hops))) u keyed in
       let fits = both_read (room 4096 (length w.flows)) (λ fits. Ok (added hops.0)) u hops.2 in
-      let way = path_good w.switches [] f.path hops.0 ok.lines.own_switches ok.lines.switches within.1 (λ i j d less lt. absurd (omega (arith, lt))) (omega arith) hops.1 in
+      let way = path_good w.switches [] f.path hops.0 ok.scenario.switches.own ok.scenario.switches.each within.1 (λ i j d less lt. absurd (omega (arith, lt))) (omega arith) hops.1 in
       record {
         names = names;
-        fits = record { host = within.0; path = within.1; some_hops = omega (arith, way.2); few_hops = omega (arith, way.1) };
-        line = record { name = range.0; key = range.1; once = way.0 };
-        own_hosts = ok.lines.own_hosts;
+        fits = record {
+          name = range.0;
+          key = range.1;
+          host = within.0;
+          path = within.1;
+          some_hops = omega (arith, way.2);
+          few_hops = omega (arith, way.1);
+          once = way.0;
+        };
+        own_hosts = ok.scenario.hosts.own;
         host_name = host;
-        own_switches = ok.lines.own_switches;
-        small_switches = ok.lines.switches;
+        own_switches = ok.scenario.switches.own;
+        small_switches = ok.scenario.switches.each;
         new_flow = new_flow w.flows f.name fresh.0 fresh.1;
         room_left = room_left 4096 (length w.flows) fits.0 fits.1;
       }
@@ -236,7 +239,7 @@ flow_leads w hosts f ok names range within = (words_ok, read) where
   read u line =
       let form = sym (form_read (at_state Declarations w) (codes "flow") (decimal f.name ∷ key_parts f.key (codes "host" ∷ decimal (slice_index (host_names hosts) f.host_at) ∷ codes "path" ∷ path_words w.switches f.path)) words.Flow refl refl refl refl words_ok) ∙ line in
       let fit = good u (rw (← names) at form) in
-      (flow_read w hosts f fit, flow_draft w f ok fit.fits fit.line fit.new_flow fit.room_left)
+      (flow_read w hosts f fit, flow_draft w f ok fit.fits fit.new_flow fit.room_left)
 
 -- ---- letters
 
@@ -255,7 +258,7 @@ unfolding keyword_of link_line host_position unlinked no_more
 link_leads w done rest h ok small some = (
   link_are_words h small,
   λ u line.
-      let new : list_any (λ g. eqb g.name h.name) done ≡ false = sym (list_any-map (λ m. eqb m h.name) (λ (g : HostLine). g.name) done) ∙ things_fresh (λ (g : HostLine). g.name) done rest (bare h) ok.lines.own_hosts in
+      let new : list_any (λ g. eqb g.name h.name) done ≡ false = sym (list_any-map (λ m. eqb m h.name) (λ (g : HostLine). g.name) done) ∙ things_fresh (λ (g : HostLine). g.name) done rest (bare h) ok.scenario.hosts.own in
       let form = sym (form_read (at_state Declarations (record w { hosts = done ++ bare h ∷ rest })) (codes "link") (decimal h.name ∷ map byte_of h.letters ∷ []) words.Link refl refl refl refl (link_are_words h small)) ∙ line in
       let named = rw (number_read 65535 h.name (map byte_of h.letters ∷ []) (lit< tt) (omega arith), place_seam done rest h new, get_seam done rest (bare h)) at form in
       let letters = both_read _ _ u named in
@@ -340,7 +343,7 @@ room_left_to : (most held : ℕ) (x : Unit {0}) → room_to most held ≡ Ok x �
 unfolding room_to
 room_left_to most held x h = at_most held most (if_read _ _ _ _ h)
 
-flow_name_small : (w : Scenario) (at : ℕ) → All IsFlowLine w.flows → at < length w.flows → slice_index (names_of w.flows) at < 65536
+flow_name_small : (w : Scenario) (at : ℕ) → All (IsFlow (length w.hosts) (length w.switches)) w.flows → at < length w.flows → slice_index (names_of w.flows) at < 65536
 flow_name_small w at lines lt = names_small (λ (f : Flow). f.name) w.flows (λ i d l. let line = lines i d l in line.name) at 0 (omega (arith, lt, length-map w.flows (λ (f : Flow). f.name)))
 
 packet_words_are : (name size : ℕ) (ds : List ℕ) (n : ℕ) (x : Fate) → name < 65536 → size < 65536 → All (λ d. d < 4294967296) ds → n < 4294967296 → IsFateRange x → AreWords (codes "packet" ∷ decimal name ∷ decimal size ∷ (map decimal ds ++ (burst_words n ++ fate_words x)))
@@ -351,21 +354,21 @@ packet_words_are name size ds n x named small delays few range =
 packet_good : (b : Bool) (w : Scenario) (at size : ℕ) (ds : List ℕ) (n : ℕ) (x : Fate) (u : State) → IsDraft (at_state (section_of b) w) → at < length w.flows → IsStepRange (steps.Packet at size ds n x) → line_of (at_state (section_of b) w) (joined (step_words w.flows w.switches (steps.Packet at size ds n x))) ≡ Ok u → PacketFits w at size ds n x
 unfolding keyword_of packet_line position_of
 packet_good b w at size ds n x u ok lt range line =
-    let name = flow_name_small w at ok.lines.flows lt in
-    let short : length (path_at w.flows at) ≤ 16 = let f = ok.scenario.flows at no_flow lt in f.few_hops in
+    let name = flow_name_small w at ok.scenario.flows.each lt in
+    let short : length (path_at w.flows at) ≤ 16 = let f = ok.scenario.flows.each at no_flow lt in f.few_hops in
     let form = sym (form_read (at_state (section_of b) w) (codes "packet") (decimal (slice_index (names_of w.flows) at) ∷ decimal size ∷ (map decimal ds ++ (burst_words n ++ fate_words x))) words.Packet refl (later b) refl (placed b words.Packet refl refl) (packet_words_are (slice_index (names_of w.flows) at) size ds n x name range.0 range.1 range.2 range.3)) ∙ line in
-    let sized = rw (number_read 65535 (slice_index (names_of w.flows) at) (decimal size ∷ (map decimal ds ++ (burst_words n ++ fate_words x))) (lit< tt) (omega (arith, name)), flow_found w at ok.lines.own_flows lt, number_read 65535 size (map decimal ds ++ (burst_words n ++ fate_words x)) (lit< tt) (omega (arith, range.0))) at form in
+    let sized = rw (number_read 65535 (slice_index (names_of w.flows) at) (decimal size ∷ (map decimal ds ++ (burst_words n ++ fate_words x))) (lit< tt) (omega (arith, name)), flow_found w at ok.scenario.flows.own lt, number_read 65535 size (map decimal ds ++ (burst_words n ++ fate_words x)) (lit< tt) (omega (arith, range.0))) at form in
     let hops = as_many (path_at w.flows at) [] ds (length (path_at w.flows at)) n x _ u range.1 sized in
     let delayed = rw (delays_read (path_at w.flows at) [] ds (burst_words n ++ fate_words x) range.1 hops) at sized in
     let some = both_read (burst (burst_words n ++ fate_words x)) _ u delayed in
     let sent = burst_range n x some.0 (eqb n 1) refl range.2 some.1 in
     let told = rw (burst_if n x (eqb n 1) refl sent.0 sent.1) at delayed in
     let last = both_read (fate (length (path_at w.flows at)) (fate_words x)) _ u told in
-    let added : Fate → State = λ y. record (at_state (section_of b) w) { section = Steps; steps = w.steps ++ steps.Packet at size ds n y ∷ [] } in
+    let added : Fate → State = λ y. at_state Steps (record w { steps = w.steps ++ steps.Packet at size ds n y ∷ [] }) in
     let room = both_read (room_to 1000000 (packet_count w.steps + n)) (λ fits. Ok (added last.0)) u last.2 in
     record {
       flow = lt;
-      own_flows = ok.lines.own_flows;
+      own_flows = ok.scenario.flows.own;
       name = name;
       small = range.0;
       hops = hops;
@@ -378,22 +381,22 @@ packet_good b w at size ds n x u ok lt range line =
 
 packet_leads : (b : Bool) (w : Scenario) (at size : ℕ) (ds : List ℕ) (n : ℕ) (x : Fate) → IsDraft (at_state (section_of b) w) → at < length w.flows → IsStepRange (steps.Packet at size ds n x) → Leads (at_state (section_of b) w) (step_words w.flows w.switches (steps.Packet at size ds n x)) (at_state Steps (record w { steps = w.steps ++ steps.Packet at size ds n x ∷ [] }))
 packet_leads b w at size ds n x ok lt range = (
-  packet_words_are (slice_index (names_of w.flows) at) size ds n x (flow_name_small w at ok.lines.flows lt) range.0 range.1 range.2 range.3,
+  packet_words_are (slice_index (names_of w.flows) at) size ds n x (flow_name_small w at ok.scenario.flows.each lt) range.0 range.1 range.2 range.3,
   λ u line.
       let good = packet_good b w at size ds n x u ok lt range line in
-      (packet_read b w at size ds n x good, step_more (at_state (section_of b) w) (w.steps ++ steps.Packet at size ds n x ∷ []) (steps.Packet at size ds n x) ok (lt, good.hops, good.fate) refl good.packets (λ i l. omega (arith, ok.scenario.few_ends i l)) (range.0, range.1, good.some)),
+      (packet_read b w at size ds n x good, step_more (at_state (section_of b) w) (w.steps ++ steps.Packet at size ds n x ∷ []) (steps.Packet at size ds n x) ok (record { flow = lt; size = range.0; each_delay = range.1; hops = good.hops; reach = good.fate; some = good.some }) refl good.packets (λ i l. omega (arith, ok.scenario.steps.few_ends i l))),
 )
 
 end_leads : (b : Bool) (w : Scenario) (at : ℕ) → IsDraft (at_state (section_of b) w) → at < length w.switches → Leads (at_state (section_of b) w) (step_words w.flows w.switches (steps.End at)) (at_state Steps (record w { steps = w.steps ++ steps.End at ∷ [] }))
 unfolding keyword_of end_line end_one position_of no_more
-end_leads b w at ok lt = let small : slice_index w.switches at < 65536 = ok.lines.switches at 0 lt in (
+end_leads b w at ok lt = let small : slice_index w.switches at < 65536 = ok.scenario.switches.each at 0 lt in (
   end_are_words (slice_index w.switches at) small,
   λ u line.
       let form = sym (form_read (at_state (section_of b) w) (codes "end") (decimal (slice_index w.switches at) ∷ []) words.End refl (later b) refl (placed b words.End refl refl) (end_are_words (slice_index w.switches at) small)) ∙ line in
-      let found = rw (not_word (slice_index w.switches at) (codes "all") (bytes_eq (decimal (slice_index w.switches at)) (codes "all")) refl small no_number, number_read 65535 (slice_index w.switches at) [] (lit< tt) (omega (arith, small)), name_found w.switches at ok.lines.own_switches lt) at form in
+      let found = rw (not_word (slice_index w.switches at) (codes "all") (bytes_eq (decimal (slice_index w.switches at)) (codes "all")) refl small no_number, number_read 65535 (slice_index w.switches at) [] (lit< tt) (omega (arith, small)), name_found w.switches at ok.scenario.switches.own lt) at form in
       let room = both_read (room 65535 (ends_of at w.steps)) _ u found in
       let few = room_left 65535 (ends_of at w.steps) room.0 room.1 in
-      (end_read b w at lt ok.lines.own_switches small few, step_more (at_state (section_of b) w) (w.steps ++ steps.End at ∷ []) (steps.End at) ok lt refl (omega (arith, ok.scenario.few_packets)) (λ i l. end_fits (at_state (section_of b) w) at i ok few l) tt),
+      (end_read b w at lt ok.scenario.switches.own small few, step_more (at_state (section_of b) w) (w.steps ++ steps.End at ∷ []) (steps.End at) ok lt refl (omega (arith, ok.scenario.steps.few_packets)) (λ i l. end_fits (at_state (section_of b) w) at i ok few l)),
 )
 
 all_have_room : (ts : List Step) (n : ℕ) (x : Unit {0}) → room_for_all ts n ≡ Ok x → all_room ts n ≡ true
@@ -408,11 +411,11 @@ end_all_leads b w ok = (
       let form = sym (form_read (at_state (section_of b) w) (codes "end") (codes "all" ∷ []) words.End refl (later b) refl (placed b words.End refl refl) (refl, (refl, tt))) ∙ line in
       let room = both_read (room_for_all w.steps (length w.switches)) _ u form in
       let few : (i : ℕ) → i < length w.switches → ends_of i w.steps < 65535 = λ i l. room_at w.steps (length w.switches) i (all_have_room w.steps (length w.switches) room.0 room.1) l in
-      (end_all_read b w few, step_more (at_state (section_of b) w) (w.steps ++ steps.EndAll ∷ []) steps.EndAll ok tt refl (omega (arith, ok.scenario.few_packets)) (λ i l. omega (arith, few i l)) tt),
+      (end_all_read b w few, step_more (at_state (section_of b) w) (w.steps ++ steps.EndAll ∷ []) steps.EndAll ok tt refl (omega (arith, ok.scenario.steps.few_packets)) (λ i l. omega (arith, few i l))),
 )
 
 release_leads : (b : Bool) (w : Scenario) → IsDraft (at_state (section_of b) w) → Leads (at_state (section_of b) w) (step_words w.flows w.switches steps.Release) (at_state Steps (record w { steps = w.steps ++ steps.Release ∷ [] }))
-release_leads b w ok = ((refl, tt), λ u line. (release_read b w, step_more (at_state (section_of b) w) (w.steps ++ steps.Release ∷ []) steps.Release ok tt refl (omega (arith, ok.scenario.few_packets)) (λ i l. omega (arith, ok.scenario.few_ends i l)) tt))
+release_leads b w ok = ((refl, tt), λ u line. (release_read b w, step_more (at_state (section_of b) w) (w.steps ++ steps.Release ∷ []) steps.Release ok tt refl (omega (arith, ok.scenario.steps.few_packets)) (λ i l. omega (arith, ok.scenario.steps.few_ends i l))))
 
 pub step_leads : (b : Bool) (w : Scenario) (t : Step) → IsDraft (at_state (section_of b) w) → IsStepRange t → IsStepInRange (length w.flows) (length w.switches) t → Leads (at_state (section_of b) w) (step_words w.flows w.switches t) (at_state Steps (record w { steps = w.steps ++ t ∷ [] }))
 step_leads b w (steps.Packet at size ds n x) ok range within = packet_leads b w at size ds n x ok within range
@@ -428,15 +431,15 @@ declared names n x h = if_read _ _ _ _ h
 
 pub ask_leads : (b : Bool) (w : Scenario) (q : Ask) → IsDraft (at_state (section_of b) w) → IsAskRange q → q.flow_at < length w.flows → Leads (at_state (section_of b) w) (ask_words w.flows q) (at_state Steps (record w { asks = w.asks ++ q ∷ [] }))
 unfolding keyword_of ask_line position_of no_more
-ask_leads b w q ok range lt = let name = flow_name_small w q.flow_at ok.lines.flows lt in (
+ask_leads b w q ok range lt = let name = flow_name_small w q.flow_at ok.scenario.flows.each lt in (
   ask_are_words w q name range.0 range.1,
   λ u line.
       let form = sym (form_read (at_state (section_of b) w) (codes "ask") (decimal (slice_index (names_of w.flows) q.flow_at) ∷ decimal q.switch ∷ decimal q.epoch ∷ []) words.Ask refl (later b) refl (placed b words.Ask refl refl) (ask_are_words w q name range.0 range.1)) ∙ line in
-      let found = rw (number_read 65535 (slice_index (names_of w.flows) q.flow_at) (decimal q.switch ∷ decimal q.epoch ∷ []) (lit< tt) (omega (arith, name)), flow_found w q.flow_at ok.lines.own_flows lt, number_read 65535 q.switch (decimal q.epoch ∷ []) (lit< tt) (omega (arith, range.0))) at form in
+      let found = rw (number_read 65535 (slice_index (names_of w.flows) q.flow_at) (decimal q.switch ∷ decimal q.epoch ∷ []) (lit< tt) (omega (arith, name)), flow_found w q.flow_at ok.scenario.flows.own lt, number_read 65535 q.switch (decimal q.epoch ∷ []) (lit< tt) (omega (arith, range.0))) at form in
       let here = both_read (known_name w.switches q.switch) _ u found in
       let timed = rw (number_read 4294967295 q.epoch [] (lit< tt) (omega (arith, range.1))) at here.2 in
       let room = both_read (room 10000 (length w.asks)) _ u timed in
       let is = declared w.switches q.switch here.0 here.1 in
       let few = room_left 10000 (length w.asks) room.0 room.1 in
-      (ask_read b w q lt ok.lines.own_flows name is range.0 range.1 few, ask_more (at_state (section_of b) w) (w.asks ++ q ∷ []) q ok lt refl (record { declared = is; switch = range.0; epoch = range.1 }) few),
+      (ask_read b w q lt ok.scenario.flows.own name is range.0 range.1 few, ask_more (at_state (section_of b) w) (w.asks ++ q ∷ []) q ok (record { flow = lt; declared = is; switch = range.0; epoch = range.1 }) refl few),
 )

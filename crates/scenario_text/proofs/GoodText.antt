@@ -20,13 +20,13 @@ use Rattle.scenario_lines.specs.declared.section.Section.{Section}
 use Rattle.scenario_lines.specs.declared.section.Section.TheVariants as sections
 use Rattle.scenario_lines.specs.declared.section.Section.TheVariants.{Declarations, Steps}
 use Rattle.scenario_lines.specs.Sections.{is_done}
-use Rattle.scenario_lines.specs.Readable.{IsHashRange, IsPickRange}
+use Rattle.lg_model.specs.Ranges.{IsHashRange, IsPickRange, HasRanges, IsFlowRange, IsStepRange, IsAskRange}
 use Rattle.text_out.specs.Words.{Words, joined}
 use Rattle.scenario_lines.specs.Spelling.{line_text, guardian_words, shape_line_words, pick_line_words, host_words, switch_words, flow_words, link_words, step_words, ask_words, done_words}
-use Rattle.scenario_lines.specs.Draft.{State, start, scenario_of, IsDraft}
+use Rattle.scenario_lines.specs.Draft.{State, start, IsDraft}
 use Rattle.scenario_lines.specs.Line.{line_of}
 use Rattle.scenario_text.specs.Text.{Fault, after_line, lines_say, reading}
-use Rattle.scenario_parts.specs.Parts.{AreRanges, AreInRange, IsFlowRange, IsStepRange, IsAskRange, IsFlowInRange, IsStepInRange}
+use Rattle.scenario_parts.specs.Parts.{AreInRange, IsFlowInRange, IsStepInRange}
 use Rattle.scenario_parts.specs.Printed.{lines_text, link_text, first_text, declared_text, text_of}
 use Rattle.scenario_parts.specs.Whole.{IsWhole}
 use Rattle.scenario_text.proofs.WordsAgain.{AreWords, joined_plain, plain_unbroken, plain_bare}
@@ -133,21 +133,21 @@ each_passes S piece all one done (x ∷ rest) is =
 seam : {X : Type 0} (P : X → Type 0) (xs done rest : List X) (x : X) → xs ≡ done ++ x ∷ rest → All P xs → P x
 seam P xs done rest x is all = at_seam P done rest x (subst (λ (ys : List _). All P ys) is all)
 
-hosts_pass : (w : Scenario) → AreRanges w → Passes (at_state Declarations (so_far w [] [] [] [] [])) (lines_text host_words w.hosts) (at_state Declarations (so_far w (map bare w.hosts) [] [] [] []))
+hosts_pass : (w : Scenario) → HasRanges w → Passes (at_state Declarations (so_far w [] [] [] [] [])) (lines_text host_words w.hosts) (at_state Declarations (so_far w (map bare w.hosts) [] [] [] []))
 hosts_pass w ranges = each_passes (λ done rest. at_state Declarations (so_far w (map bare done) [] [] [] [])) (λ h. line_text (host_words h)) w.hosts one [] w.hosts refl where
   one : (done rest : List HostLine) (h : HostLine) → w.hosts ≡ done ++ h ∷ rest → Passes (at_state Declarations (so_far w (map bare done) [] [] [] [])) (line_text (host_words h)) (at_state Declarations (so_far w (map bare (done ++ h ∷ [])) [] [] [] []))
   one done rest h is = rw (map-append bare done (h ∷ []))
       (line_passes (at_state Declarations (so_far w (map bare done) [] [] [] [])) (at_state Declarations (so_far w (map bare done ++ bare h ∷ []) [] [] [] [])) (host_words h) refl
       (λ ok. host_leads (so_far w (map bare done) [] [] [] []) h ok (seam (λ g. g.name < 65536) w.hosts done rest h is ranges.hosts)))
 
-switches_pass : (w : Scenario) (hosts : List HostLine) → AreRanges w → Passes (at_state Declarations (so_far w hosts [] [] [] [])) (lines_text switch_words w.switches) (at_state Declarations (so_far w hosts w.switches [] [] []))
+switches_pass : (w : Scenario) (hosts : List HostLine) → HasRanges w → Passes (at_state Declarations (so_far w hosts [] [] [] [])) (lines_text switch_words w.switches) (at_state Declarations (so_far w hosts w.switches [] [] []))
 switches_pass w hosts ranges = each_passes (λ done rest. at_state Declarations (so_far w hosts done [] [] [])) (λ n. line_text (switch_words n)) w.switches one [] w.switches refl where
   one : (done rest : List ℕ) (n : ℕ) → w.switches ≡ done ++ n ∷ rest → Passes (at_state Declarations (so_far w hosts done [] [] [])) (line_text (switch_words n)) (at_state Declarations (so_far w hosts (done ++ n ∷ []) [] [] []))
   one done rest n is =
       line_passes (at_state Declarations (so_far w hosts done [] [] [])) (at_state Declarations (so_far w hosts (done ++ n ∷ []) [] [] [])) (switch_words n) refl
       (λ ok. switch_leads (so_far w hosts done [] [] []) n ok (seam (λ m. m < 65536) w.switches done rest n is ranges.switches))
 
-flows_pass : (w : Scenario) → AreRanges w → AreInRange w → Passes (at_state Declarations (so_far w (map bare w.hosts) w.switches [] [] [])) (lines_text (flow_words w.hosts w.switches) w.flows) (at_state Declarations (so_far w (map bare w.hosts) w.switches w.flows [] []))
+flows_pass : (w : Scenario) → HasRanges w → AreInRange w → Passes (at_state Declarations (so_far w (map bare w.hosts) w.switches [] [] [])) (lines_text (flow_words w.hosts w.switches) w.flows) (at_state Declarations (so_far w (map bare w.hosts) w.switches w.flows [] []))
 flows_pass w ranges positions = each_passes (λ done rest. at_state Declarations (so_far w (map bare w.hosts) w.switches done [] [])) (λ f. line_text (flow_words w.hosts w.switches f)) w.flows one [] w.flows refl where
   one : (done rest : List Flow) (f : Flow) → w.flows ≡ done ++ f ∷ rest → Passes (at_state Declarations (so_far w (map bare w.hosts) w.switches done [] [])) (line_text (flow_words w.hosts w.switches f)) (at_state Declarations (so_far w (map bare w.hosts) w.switches (done ++ f ∷ []) [] []))
   one done rest f is =
@@ -167,21 +167,21 @@ link_passes w done rest h small = by (eqb (length h.letters) 0) refl where
       line_passes (at_state Declarations (so_far w (done ++ bare h ∷ rest) w.switches w.flows [] [])) (at_state Declarations (so_far w (done ++ h ∷ rest) w.switches w.flows [] [])) (link_words h) refl
       (λ ok. link_leads (so_far w [] w.switches w.flows [] []) done rest h ok small some)
 
-links_pass : (w : Scenario) → AreRanges w → Passes (at_state Declarations (so_far w (map bare w.hosts) w.switches w.flows [] [])) (flat_map link_text w.hosts) (at_state Declarations (so_far w w.hosts w.switches w.flows [] []))
+links_pass : (w : Scenario) → HasRanges w → Passes (at_state Declarations (so_far w (map bare w.hosts) w.switches w.flows [] [])) (flat_map link_text w.hosts) (at_state Declarations (so_far w w.hosts w.switches w.flows [] []))
 links_pass w ranges = rw (append-nil w.hosts) at (each_passes (λ done rest. at_state Declarations (so_far w (done ++ map bare rest) w.switches w.flows [] [])) link_text w.hosts one [] w.hosts refl) where
   one : (done rest : List HostLine) (h : HostLine) → w.hosts ≡ done ++ h ∷ rest → Passes (at_state Declarations (so_far w (done ++ bare h ∷ map bare rest) w.switches w.flows [] [])) (link_text h) (at_state Declarations (so_far w ((done ++ h ∷ []) ++ map bare rest) w.switches w.flows [] []))
   one done rest h is = rw (append_assoc done (h ∷ []) (map bare rest)) (link_passes w done (map bare rest) h (seam (λ g. g.name < 65536) w.hosts done rest h is ranges.hosts))
 
 -- ---- steps and asks
 
-steps_pass : (w : Scenario) → AreRanges w → AreInRange w → Passes (at_state Declarations (so_far w w.hosts w.switches w.flows [] [])) (lines_text (step_words w.flows w.switches) w.steps) (at_state (section_of (some w.steps)) (so_far w w.hosts w.switches w.flows w.steps []))
+steps_pass : (w : Scenario) → HasRanges w → AreInRange w → Passes (at_state Declarations (so_far w w.hosts w.switches w.flows [] [])) (lines_text (step_words w.flows w.switches) w.steps) (at_state (section_of (some w.steps)) (so_far w w.hosts w.switches w.flows w.steps []))
 steps_pass w ranges positions = each_passes (λ done rest. at_state (section_of (some done)) (so_far w w.hosts w.switches w.flows done [])) (λ t. line_text (step_words w.flows w.switches t)) w.steps one [] w.steps refl where
   one : (done rest : List Step) (t : Step) → w.steps ≡ done ++ t ∷ rest → Passes (at_state (section_of (some done)) (so_far w w.hosts w.switches w.flows done [])) (line_text (step_words w.flows w.switches t)) (at_state (section_of (some (done ++ t ∷ []))) (so_far w w.hosts w.switches w.flows (done ++ t ∷ []) []))
   one done rest t is = rw (some_push done t)
       (line_passes (at_state (section_of (some done)) (so_far w w.hosts w.switches w.flows done [])) (at_state Steps (so_far w w.hosts w.switches w.flows (done ++ t ∷ []) [])) (step_words w.flows w.switches t) refl
       (λ ok. step_leads (some done) (so_far w w.hosts w.switches w.flows done []) t ok (seam IsStepRange w.steps done rest t is ranges.steps) (seam (IsStepInRange (length w.flows) (length w.switches)) w.steps done rest t is positions.steps)))
 
-asks_pass : (w : Scenario) → AreRanges w → AreInRange w → Passes (at_state (section_of (some w.steps)) (so_far w w.hosts w.switches w.flows w.steps [])) (lines_text (ask_words w.flows) w.asks) (at_state (section_of (some w.steps || some w.asks)) w)
+asks_pass : (w : Scenario) → HasRanges w → AreInRange w → Passes (at_state (section_of (some w.steps)) (so_far w w.hosts w.switches w.flows w.steps [])) (lines_text (ask_words w.flows) w.asks) (at_state (section_of (some w.steps || some w.asks)) w)
 asks_pass w ranges positions = rw (no_or (some w.steps)) at (each_passes (λ done rest. at_state (section_of (some w.steps || some done)) (so_far w w.hosts w.switches w.flows w.steps done)) (λ q. line_text (ask_words w.flows q)) w.asks one [] w.asks refl) where
   no_or : (b : Bool) → (b || false) ≡ b
   no_or true = refl
@@ -199,37 +199,23 @@ none_declared : (w : Scenario) (x : Section) → IsShape w.shape.rows w.shape.wi
 none_declared w x shape hash pick = record {
   scenario = record {
     shape = shape;
-    few_hosts = omega arith;
-    few_switches = omega arith;
-    flows = λ i d lt. absurd (omega (arith, lt));
-    steps = λ i d lt. absurd (omega (arith, lt));
-    asks = λ i d lt. absurd (omega (arith, lt));
-    few_packets = omega arith;
-    few_ends = λ i lt. omega arith;
-  };
-  lines = record {
     hash = hash;
     pick = pick;
-    hosts = λ i d lt. absurd (omega (arith, lt));
-    own_hosts = λ i j d less lt. absurd (omega (arith, lt));
-    switches = λ i d lt. absurd (omega (arith, lt));
-    own_switches = λ i j d less lt. absurd (omega (arith, lt));
-    few_flows = omega arith;
-    flows = λ i d lt. absurd (omega (arith, lt));
-    own_flows = λ i j d less lt. absurd (omega (arith, lt));
-    steps = λ i d lt. absurd (omega (arith, lt));
-    few_asks = omega arith;
-    asks = λ i d lt. absurd (omega (arith, lt));
+    hosts = record { few = omega arith; each = λ i d lt. absurd (omega (arith, lt)); own = λ i j d less lt. absurd (omega (arith, lt)) };
+    switches = record { few = omega arith; each = λ i d lt. absurd (omega (arith, lt)); own = λ i j d less lt. absurd (omega (arith, lt)) };
+    flows = record { few = omega arith; each = λ i d lt. absurd (omega (arith, lt)); own = λ i j d less lt. absurd (omega (arith, lt)) };
+    steps = record { each = λ i d lt. absurd (omega (arith, lt)); few_packets = omega arith; few_ends = λ i lt. omega arith };
+    asks = record { few = omega arith; each = λ i d lt. absurd (omega (arith, lt)) };
   };
   no_steps = λ e. refl;
 }
 
 start_draft : IsDraft start
-start_draft = none_declared (scenario_of start) sections.Version (record { some_rows = omega arith; few_rows = omega arith; some_width = omega arith; few_width = omega arith }) tt tt
+start_draft = none_declared start.parts sections.Version (record { some_rows = omega arith; few_rows = omega arith; some_width = omega arith; few_width = omega arith }) tt tt
 
-first_pass : (w : Scenario) → AreRanges w → Passes start (first_text w) (at_state Declarations (so_far w [] [] [] [] []))
+first_pass : (w : Scenario) → HasRanges w → Passes start (first_text w) (at_state Declarations (so_far w [] [] [] [] []))
 first_pass w ranges =
-    let w0 = scenario_of start in
+    let w0 = start.parts in
     let w1 : Scenario = record w0 { shape = w.shape } in
     let third = line_passes (at_state sections.Pick w1) (at_state Declarations (so_far w [] [] [] [] [])) (pick_line_words w.pick) refl (λ ok. (pick_are_words w.pick ranges.pick, λ u line. (pick_read w1 w.pick ranges.pick, none_declared w Declarations ranges.shape ranges.hash ranges.pick))) in
     let second = line_passes (at_state sections.Shape w0) (at_state sections.Pick w1) (shape_line_words w.shape) refl (λ ok. (shape_are_words w.shape ranges.shape ranges.hash, λ u line. (shape_read w0 w.shape ranges.shape ranges.hash, none_declared w1 sections.Pick ranges.shape ranges.hash tt))) in
@@ -237,7 +223,7 @@ first_pass w ranges =
     both start (at_state sections.Shape w0) (at_state Declarations (so_far w [] [] [] [] [])) (line_text guardian_words) (line_text (shape_line_words w.shape) ++ line_text (pick_line_words w.pick)) one
     (both (at_state sections.Shape w0) (at_state sections.Pick w1) (at_state Declarations (so_far w [] [] [] [] [])) (line_text (shape_line_words w.shape)) (line_text (pick_line_words w.pick)) second third)
 
-declared_pass : (w : Scenario) → AreRanges w → AreInRange w → Passes (at_state Declarations (so_far w [] [] [] [] [])) (declared_text w) (at_state Declarations (so_far w w.hosts w.switches w.flows [] []))
+declared_pass : (w : Scenario) → HasRanges w → AreInRange w → Passes (at_state Declarations (so_far w [] [] [] [] [])) (declared_text w) (at_state Declarations (so_far w w.hosts w.switches w.flows [] []))
 declared_pass w ranges positions =
     let bares = map bare w.hosts in
     let none = at_state Declarations (so_far w [] [] [] [] []) in
@@ -253,7 +239,7 @@ declared_pass w ranges positions =
 undone_text : Scenario → List ℕ
 undone_text w = first_text w ++ (declared_text w ++ (lines_text (step_words w.flows w.switches) w.steps ++ lines_text (ask_words w.flows) w.asks))
 
-undone_pass : (w : Scenario) → AreRanges w → AreInRange w → Passes start (undone_text w) (at_state (section_of (some w.steps || some w.asks)) w)
+undone_pass : (w : Scenario) → HasRanges w → AreInRange w → Passes start (undone_text w) (at_state (section_of (some w.steps || some w.asks)) w)
 unfolding undone_text
 undone_pass w ranges positions =
     let first = at_state Declarations (so_far w [] [] [] [] []) in
@@ -270,7 +256,7 @@ last_apart : (a b c d e : List ℕ) → a ++ (b ++ (c ++ (d ++ e))) ≡ (a ++ (b
 last_apart a b c d e = rw (append_assoc a (b ++ (c ++ d)) e, append_assoc b (c ++ d) e, append_assoc c d e) refl
 
 -- Parts whose text says a scenario within its first m bytes fit each other, and their text has at most m bytes.
-good_parts : (m : ℕ) (w q : Scenario) → AreRanges w → AreInRange w → Says m start (text_of w) q → (IsDraft (at_state (section_of (some w.steps || some w.asks)) w)) × (length (text_of w) ≤ m)
+good_parts : (m : ℕ) (w q : Scenario) → HasRanges w → AreInRange w → Says m start (text_of w) q → (IsDraft (at_state (section_of (some w.steps || some w.asks)) w)) × (length (text_of w) ≤ m)
 unfolding undone_text
 good_parts m w q ranges positions says =
     let is : text_of w ≡ undone_text w ++ line_text done_words = last_apart (first_text w) (declared_text w) (lines_text (step_words w.flows w.switches) w.steps) (lines_text (ask_words w.flows) w.asks) (line_text done_words) in
@@ -283,7 +269,7 @@ unfolding reading
 says_whole text q h = (1, h)
 
 -- Parts whose text is read are good.
-pub only_whole : (w q : Scenario) → AreRanges w → AreInRange w → reading (text_of w) ≡ Ok q → IsWhole w
+pub only_whole : (w q : Scenario) → HasRanges w → AreInRange w → reading (text_of w) ≡ Ok q → IsWhole w
 only_whole w q ranges positions h =
     let good = good_parts MOST_TEXT_BYTES w q ranges positions (says_whole (text_of w) q h) in
-    record { fits = good.0.scenario; lines = good.0.lines; short = good.1 }
+    record { scenario = good.0.scenario; short = good.1 }

@@ -6,7 +6,7 @@ use Rattle.scenario_lines.specs.declared.section.Section.{Section}
 use Rattle.scenario_lines.specs.declared.section.Section.TheVariants as sections
 use Rattle.scenario_lines.specs.declared.section.Section.TheVariants.{Declarations, Steps, Done}
 use Rattle.scenario_lines.specs.Sections.{is_done}
-use Rattle.scenario_lines.specs.Draft.{State, start, scenario_of}
+use Rattle.scenario_lines.specs.Draft.{State, start}
 use Rattle.scenario_lines.specs.PrintedLen.{frame_size, printed_len}
 use Rattle.scenario_parts.specs.Printed.{text_of}
 use Rattle.scenario_parts.proofs.LengthLemmas.{text_size}
@@ -20,9 +20,9 @@ frame_done Steps shape pick is = absurd cc
 frame_done Done shape pick is = refl
 
 -- After `done` the text of the parts has the bytes of their lines.
-pub done_weighs : (s : State) → is_done s.section ≡ true → length (text_of (scenario_of s)) ≡ printed_len s
+pub done_weighs : (s : State) → is_done s.section ≡ true → length (text_of s.parts) ≡ printed_len s
 unfolding printed_len
-done_weighs s is = omega (arith, text_size (scenario_of s), frame_done s.section s.shape s.pick is)
+done_weighs s is = omega (arith, text_size s.parts, frame_done s.section s.parts.shape s.parts.pick is)
 
 -- Before the first line there is none.
 pub nothing_weighs : (s : State) → s ≡ start → printed_len s ≡ 0

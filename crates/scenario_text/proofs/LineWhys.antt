@@ -14,7 +14,8 @@ use Rattle.scenario_lines.specs.declared.why.Why.TheVariants as whys
 use Rattle.scenario_lines.specs.declared.section.Keyword.{Keyword}
 use Rattle.scenario_lines.specs.declared.section.Keyword.TheVariants as words
 use Rattle.scenario_lines.specs.Sections.{is_first, keyword_of, admits}
-use Rattle.scenario_lines.specs.Counts.{names_of, path_at, ends_of}
+use Rattle.lg_model.specs.Keeping.{names_of, ends_of}
+use Rattle.lg_model.specs.Scenario.{path_at}
 use Rattle.text_out.specs.Words.{Words}
 use Rattle.scenario_lines.specs.Draft.{State}
 use Rattle.scenario_lines.specs.Fields.{◌>>=◌, number, word, no_more, fresh_name, known_name, position_of, fresh_host, host_position, fresh_flow, room, room_to, all_room, room_for_all, or_bad_key, key_address, key_number, key, hop, path, hash, pick, is_letter, letters_word, delays, burst, fate_ended, fate}
@@ -186,15 +187,15 @@ pick_line_why s ws = (step _ _ (pick_why ws) (λ x. (step _ _ (no_more_why x.1) 
 
 host_line_why : (s : State) (ws : Words) → OfALine (host_line s ws)
 unfolding host_line
-host_line_why s ws = (step _ _ (number_why 0 65535 ws) (λ h. (step _ _ (fresh_host_why s.hosts h.0) (λ new. (step _ _ (no_more_why h.1) (λ end. (step _ _ (room_why MOST_HOSTS (length s.hosts)) (λ fits. (good _)))))))))
+host_line_why s ws = (step _ _ (number_why 0 65535 ws) (λ h. (step _ _ (fresh_host_why s.parts.hosts h.0) (λ new. (step _ _ (no_more_why h.1) (λ end. (step _ _ (room_why MOST_HOSTS (length s.parts.hosts)) (λ fits. (good _)))))))))
 
 switch_line_why : (s : State) (ws : Words) → OfALine (switch_line s ws)
 unfolding switch_line
-switch_line_why s ws = (step _ _ (number_why 0 65535 ws) (λ x. (step _ _ (fresh_name_why s.switches x.0) (λ new. (step _ _ (no_more_why x.1) (λ end. (step _ _ (room_why MOST_SWITCHES (length s.switches)) (λ fits. (good _)))))))))
+switch_line_why s ws = (step _ _ (number_why 0 65535 ws) (λ x. (step _ _ (fresh_name_why s.parts.switches x.0) (λ new. (step _ _ (no_more_why x.1) (λ end. (step _ _ (room_why MOST_SWITCHES (length s.parts.switches)) (λ fits. (good _)))))))))
 
 flow_line_why : (s : State) (ws : Words) → OfALine (flow_line s ws)
 unfolding flow_line
-flow_line_why s ws = (step _ _ (number_why 0 65535 ws) (λ f. (step _ _ (fresh_flow_why s.flows f.0) (λ new. (step _ _ (key_why f.1) (λ k. (step _ _ (word_why (codes "host") k.1) (λ h. (step _ _ (number_why 0 65535 h) (λ host. (step _ _ (host_position_why s.hosts host.0) (λ at. (step _ _ (word_why (codes "path") host.1) (λ p. (step _ _ (path_why s.switches [] p) (λ hops. (step _ _ (room_why MOST_FLOWS (length s.flows)) (λ fits. (good _)))))))))))))))))))
+flow_line_why s ws = (step _ _ (number_why 0 65535 ws) (λ f. (step _ _ (fresh_flow_why s.parts.flows f.0) (λ new. (step _ _ (key_why f.1) (λ k. (step _ _ (word_why (codes "host") k.1) (λ h. (step _ _ (number_why 0 65535 h) (λ host. (step _ _ (host_position_why s.parts.hosts host.0) (λ at. (step _ _ (word_why (codes "path") host.1) (λ p. (step _ _ (path_why s.parts.switches [] p) (λ hops. (step _ _ (room_why MOST_FLOWS (length s.parts.flows)) (λ fits. (good _)))))))))))))))))))
 
 no_letters_why : (o : Option HostLine) → OfALine (no_letters o)
 no_letters_why None = bad whys.UnknownName tt
@@ -206,19 +207,19 @@ unlinked_why hosts at = no_letters_why (slice_get hosts at)
 
 link_line_why : (s : State) (ws : Words) → OfALine (link_line s ws)
 unfolding link_line
-link_line_why s ws = (step _ _ (number_why 0 65535 ws) (λ h. (step _ _ (host_position_why s.hosts h.0) (λ at. (step _ _ (unlinked_why s.hosts at) (λ new. (step _ _ (letters_why h.1) (λ x. (step _ _ (no_more_why x.1) (λ end. (good _)))))))))))
+link_line_why s ws = (step _ _ (number_why 0 65535 ws) (λ h. (step _ _ (host_position_why s.parts.hosts h.0) (λ at. (step _ _ (unlinked_why s.parts.hosts at) (λ new. (step _ _ (letters_why h.1) (λ x. (step _ _ (no_more_why x.1) (λ end. (good _)))))))))))
 
 packet_line_why : (s : State) (ws : Words) → OfALine (packet_line s ws)
 unfolding packet_line
-packet_line_why s ws = (step _ _ (number_why 0 65535 ws) (λ f. (step _ _ (position_why (names_of s.flows) f.0) (λ at. (step _ _ (number_why 0 65535 f.1) (λ size. (step _ _ (delays_why (path_at s.flows at) [] size.1) (λ d. (step _ _ (burst_why d.1) (λ b. (step _ _ (fate_why (length (path_at s.flows at)) b.1) (λ x. (step _ _ (room_to_why MOST_PACKETS _) (λ fits. (good _)))))))))))))))
+packet_line_why s ws = (step _ _ (number_why 0 65535 ws) (λ f. (step _ _ (position_why (names_of s.parts.flows) f.0) (λ at. (step _ _ (number_why 0 65535 f.1) (λ size. (step _ _ (delays_why (path_at s.parts.flows at) [] size.1) (λ d. (step _ _ (burst_why d.1) (λ b. (step _ _ (fate_why (length (path_at s.parts.flows at)) b.1) (λ x. (step _ _ (room_to_why MOST_PACKETS _) (λ fits. (good _)))))))))))))))
 
 end_one_why : (s : State) (ws : Words) → OfALine (end_one s ws)
 unfolding end_one
-end_one_why s ws = (step _ _ (number_why 0 65535 ws) (λ x. (step _ _ (position_why s.switches x.0) (λ at. (step _ _ (no_more_why x.1) (λ end. (step _ _ (room_why MOST_ENDS (ends_of at s.steps)) (λ fits. (good _)))))))))
+end_one_why s ws = (step _ _ (number_why 0 65535 ws) (λ x. (step _ _ (position_why s.parts.switches x.0) (λ at. (step _ _ (no_more_why x.1) (λ end. (step _ _ (room_why MOST_ENDS (ends_of at s.parts.steps)) (λ fits. (good _)))))))))
 
 end_all_why : (s : State) (ws : Words) → OfALine (end_all s ws)
 unfolding end_all
-end_all_why s ws = (step _ _ (no_more_why ws) (λ end. (step _ _ (room_for_all_why s.steps (length s.switches)) (λ fits. (good _)))))
+end_all_why s ws = (step _ _ (no_more_why ws) (λ end. (step _ _ (room_for_all_why s.parts.steps (length s.parts.switches)) (λ fits. (good _)))))
 
 end_line_why : (s : State) (ws : Words) → OfALine (end_line s ws)
 unfolding end_line
@@ -231,7 +232,7 @@ release_line_why s ws = (step _ _ (no_more_why ws) (λ end. (good _)))
 
 ask_line_why : (s : State) (ws : Words) → OfALine (ask_line s ws)
 unfolding ask_line
-ask_line_why s ws = (step _ _ (number_why 0 65535 ws) (λ f. (step _ _ (position_why (names_of s.flows) f.0) (λ at. (step _ _ (number_why 0 65535 f.1) (λ x. (step _ _ (known_name_why s.switches x.0) (λ here. (step _ _ (number_why 0 4294967295 x.1) (λ e. (step _ _ (no_more_why e.1) (λ end. (step _ _ (room_why MOST_ASKS (length s.asks)) (λ fits. (good _)))))))))))))))
+ask_line_why s ws = (step _ _ (number_why 0 65535 ws) (λ f. (step _ _ (position_why (names_of s.parts.flows) f.0) (λ at. (step _ _ (number_why 0 65535 f.1) (λ x. (step _ _ (known_name_why s.parts.switches x.0) (λ here. (step _ _ (number_why 0 4294967295 x.1) (λ e. (step _ _ (no_more_why e.1) (λ end. (step _ _ (room_why MOST_ASKS (length s.parts.asks)) (λ fits. (good _)))))))))))))))
 
 done_line_why : (s : State) (ws : Words) → OfALine (done_line s ws)
 unfolding done_line

@@ -26,29 +26,29 @@ use Rattle.lg_model.specs.declared.scenario.Step.{Step}
 use Rattle.lg_model.specs.declared.scenario.Step.TheVariants as steps
 use Rattle.lg_model.specs.declared.scenario.Ask.{Ask}
 use Rattle.lg_model.specs.Placing.{Shape, IsShape}
-use Rattle.lg_model.specs.Scenario.{Scenario, IsFlow, packet_count, reached}
+use Rattle.lg_model.specs.Keeping.{IsFlow, names_of, ends_of, AreApart, host_names}
+use Rattle.lg_model.specs.Scenario.{Scenario, packet_count, reached, path_at}
 use Rattle.scenario_lines.specs.declared.section.Section.{Section}
 use Rattle.scenario_lines.specs.declared.section.Section.TheVariants as sections
 use Rattle.scenario_lines.specs.declared.section.Section.TheVariants.{Declarations, Steps, Done}
 use Rattle.scenario_lines.specs.declared.section.Keyword.{Keyword}
 use Rattle.scenario_lines.specs.declared.section.Keyword.TheVariants as words
 use Rattle.scenario_lines.specs.Sections.{is_first, admits, keyword_of}
-use Rattle.scenario_lines.specs.Counts.{names_of, path_at, ends_of}
-use Rattle.scenario_lines.specs.Readable.{AreApart, IsHashRange, IsPickRange, IsFlowLine}
+use Rattle.lg_model.specs.Ranges.{IsHashRange, IsPickRange}
 use Rattle.text_out.specs.Words.{Words, joined}
 use Rattle.text_out.specs.Shapes.{hash_words}
-use Rattle.scenario_lines.specs.Spelling.{guardian_words, shape_line_words, pick_words, pick_line_words, host_words, switch_words, host_names, key_parts, path_words, flow_words, byte_of, link_words, burst_words, fate_words, step_words, ask_words, done_words}
+use Rattle.scenario_lines.specs.Spelling.{guardian_words, shape_line_words, pick_words, pick_line_words, host_words, switch_words, key_parts, path_words, flow_words, byte_of, link_words, burst_words, fate_words, step_words, ask_words, done_words}
 use Rattle.scenario_lines.specs.Draft.{State}
 use Rattle.scenario_lines.specs.Fields.{word, no_more, fresh_name, known_name, position_of, fresh_host, host_position, fresh_flow, room, room_to, all_room, room_for_all, key_address, key_number, key, hop, path, hash, pick, is_letter, letter_of, letters_word, delays, burst, fate, fate_ended}
 use Rattle.scenario_lines.specs.Line.{shape_line, pick_line, host_line, switch_line, flow_line, unlinked, link_line, packet_line, end_one, end_all, end_line, release_line, ask_line, done_line, form_of, words_line, is_skipped, line_of}
 use Rattle.scenario_lines.proofs.IndexLemmas.{position_none}
-use Rattle.scenario_lines.proofs.ReadableLemmas.{absent}
+use Rattle.scenario_lines.proofs.NameLemmas.{absent}
 use Rattle.scenario_text.proofs.WordsAgain.{AreWords, is_word, words_append, split_words, number_word_is, key_words_are, numbers_are_words, number_read, number_from_read}
 use Rattle.scenario_text.proofs.NamesAgain.{position_is, name_found, thing_found, name_fresh}
 
 -- The state of a text that has said these parts and is in this section.
 abbrev pub at_state : Section → Scenario → State
-at_state x w = record { section = x; shape = w.shape; pick = w.pick; hosts = w.hosts; switches = w.switches; flows = w.flows; steps = w.steps; asks = w.asks }
+at_state x w = record { section = x; parts = w }
 
 -- The section of declarations, or that of steps where one came.
 abbrev pub section_of : Bool → Section
@@ -148,7 +148,6 @@ path_are_words switches (at ∷ ats) small within = (number_word_is (slice_index
 pub record FlowFits (w : Scenario) (hosts : List HostLine) (f : Flow) : Type 0 where
   pub names : host_names w.hosts ≡ host_names hosts
   pub fits : IsFlow (length w.hosts) (length w.switches) f
-  pub line : IsFlowLine f
   pub own_hosts : AreApart (host_names w.hosts)
   pub host_name : slice_index (host_names w.hosts) f.host_at < 65536
   pub own_switches : AreApart w.switches
@@ -161,14 +160,14 @@ flow_are_words_of switches f host small name fits hops =
     (refl, (number_word_is f.name (omega arith), key_words_are f.key (codes "host" ∷ decimal host ∷ codes "path" ∷ path_words switches f.path) fits (refl, (number_word_is host (omega arith), (refl, hops)))))
 
 pub flow_are_words : (w : Scenario) (hosts : List HostLine) (f : Flow) → FlowFits w hosts f → AreWords (flow_words hosts w.switches f)
-flow_are_words w hosts f h = flow_are_words_of w.switches f (slice_index (host_names hosts) f.host_at) (rw h.names at h.host_name) h.line.name h.line.key (path_are_words w.switches f.path h.small_switches h.fits.path)
+flow_are_words w hosts f h = flow_are_words_of w.switches f (slice_index (host_names hosts) f.host_at) (rw h.names at h.host_name) h.fits.name h.fits.key (path_are_words w.switches f.path h.small_switches h.fits.path)
 
 flow_line_read : (w : Scenario) (hosts : List HostLine) (f : Flow) → FlowFits w hosts f →
     flow_line (at_state Declarations w) (decimal f.name ∷ key_parts f.key (codes "host" ∷ decimal (slice_index (host_names w.hosts) f.host_at) ∷ codes "path" ∷ path_words w.switches f.path)) ≡ Ok (at_state Declarations (record w { flows = w.flows ++ f ∷ [] }))
 unfolding flow_line word host_position fresh_flow room
 flow_line_read w hosts f h =
     let none : position (λ m. eqb m f.name) (names_of w.flows) ≡ None = position_none (λ m. eqb m f.name) (names_of w.flows) (λ k lt. absent (λ m. eqb m f.name) (names_of w.flows) h.new_flow k 0 lt) in
-    rw (number_read 65535 f.name _ (lit< tt) (omega (arith, h.line.name)), none, key_read f.key _ h.line.key, number_read 65535 (slice_index (host_names w.hosts) f.host_at) _ (lit< tt) (omega (arith, h.host_name)), thing_found (λ (g : HostLine). g.name) w.hosts f.host_at h.own_hosts h.fits.host, path_read w.switches [] f.path h.own_switches h.small_switches h.fits.path h.line.once (omega (arith, h.fits.few_hops)) (omega (arith, h.fits.some_hops)), lt-ltb (length w.flows) 4096 h.room_left) refl
+    rw (number_read 65535 f.name _ (lit< tt) (omega (arith, h.fits.name)), none, key_read f.key _ h.fits.key, number_read 65535 (slice_index (host_names w.hosts) f.host_at) _ (lit< tt) (omega (arith, h.host_name)), thing_found (λ (g : HostLine). g.name) w.hosts f.host_at h.own_hosts h.fits.host, path_read w.switches [] f.path h.own_switches h.small_switches h.fits.path h.fits.once (omega (arith, h.fits.few_hops)) (omega (arith, h.fits.some_hops)), lt-ltb (length w.flows) 4096 h.room_left) refl
 
 pub flow_read : (w : Scenario) (hosts : List HostLine) (f : Flow) → FlowFits w hosts f → line_of (at_state Declarations w) (joined (flow_words hosts w.switches f)) ≡ Ok (at_state Declarations (record w { flows = w.flows ++ f ∷ [] }))
 unfolding keyword_of

@@ -9,7 +9,7 @@ use Rattle.scenario_text.specs.declared.fault.ScenarioFault.{ScenarioFault}
 use Rattle.scenario_text.specs.declared.fault.ScenarioFault.TheVariants as faults
 use Rattle.lg_model.specs.Scenario.{Scenario}
 use Rattle.scenario_text.specs.declared.reader.Reader.{Reader}
-use Rattle.scenario_lines.specs.Draft.{view, start, scenario_of}
+use Rattle.scenario_lines.specs.Draft.{view, start}
 use Rattle.scenario_text.specs.Sources.{Comes}
 use Rattle.scenario_text.specs.Text.{reading, Answers}
 use Rattle.scenario_text.specs.Reading.{from_here, Fed, StillSays}
@@ -63,7 +63,7 @@ says_more (Some input) left left' taken n want r r' buf le s h fed =
     }
 
 pub says_done : (first left left' : Option (List ℕ)) (taken n want : ℕ) (r r' : Reader) (buf : List ℕ) (w : Scenario) → taken + n ≤ MOST_TEXT_BYTES → IfSome first (λ input. StillSays input taken left r)
-    → IfSome left (λ b. Comes n want b buf left') → Fed r (take n buf) r' (Ok true) → w ≡ scenario_of (view r'.draft) → IfSome first (λ input. Answers (Ok w) (reading input))
+    → IfSome left (λ b. Comes n want b buf left') → Fed r (take n buf) r' (Ok true) → w ≡ (view r'.draft).parts → IfSome first (λ input. Answers (Ok w) (reading input))
 says_done None left left' taken n want r r' buf w le s h fed is = tt
 says_done (Some input) left left' taken n want r r' buf w le s h fed is =
     let k = here input taken n want left left' r buf le s h in

@@ -12,7 +12,7 @@ use Rattle.scenario_lines.specs.declared.why.Why.TheVariants.{TooLong}
 use Rattle.scenario_text.specs.declared.fault.ScenarioFault.{ScenarioFault}
 use Rattle.scenario_text.specs.declared.fault.ScenarioFault.TheVariants as faults
 use Rattle.scenario_text.specs.declared.reader.Reader.{Reader}
-use Rattle.scenario_lines.specs.Draft.{State, view, scenario_of}
+use Rattle.scenario_lines.specs.Draft.{State, view}
 use Rattle.scenario_lines.specs.Line.{line_of}
 use Rattle.scenario_lines.specs.Sections.{is_done}
 use Rattle.scenario_text.specs.Text.{at_end, after_line, lines_say}
@@ -40,7 +40,7 @@ ends_bad long n s line more stripped why unbroken is h =
     ends long n s line more unbroken ∙ ap (λ (r : Result State Why). after_line n r (λ t. lines_say long (n + 1) t (words_at 10 more))) (ap (line_of s) (sym is) ∙ h)
 
 pub ends_well : (long : Bool) (n : ℕ) (s t : State) (line more stripped : List ℕ) → IsUnbroken line → stripped ≡ strip_carriage_return line → line_of s stripped ≡ Ok t
-    → lines_say long n s (words_at 10 (line ++ 10 ∷ more)) ≡ cond (is_done t.section) (Ok (scenario_of t)) (lines_say long (n + 1) t (words_at 10 more))
+    → lines_say long n s (words_at 10 (line ++ 10 ∷ more)) ≡ cond (is_done t.section) (Ok t.parts) (lines_say long (n + 1) t (words_at 10 more))
 ends_well long n s t line more stripped unbroken is h =
     ends long n s line more unbroken ∙ ap (λ (r : Result State Why). after_line n r (λ t. lines_say long (n + 1) t (words_at 10 more))) (ap (line_of s) (sym is) ∙ h)
 
@@ -77,7 +77,7 @@ end_bad old front n why one two at h long more =
     rw (seam old.pending.items front more, at) (ends_bad long old.line (view old.draft) (old.pending.items ++ front) more (strip_carriage_return (old.pending.items ++ front)) why (unbroken_both old.pending.items front one two) refl h)
 
 pub end_well : (old : Reader) (front : List ℕ) (t : State) → IsUnbroken old.pending.items → IsUnbroken front → line_of (view old.draft) (strip_carriage_return (old.pending.items ++ front)) ≡ Ok t
-    → (long : Bool) (more : List ℕ) → from_here long old ((front ++ 10 ∷ []) ++ more) ≡ cond (is_done t.section) (Ok (scenario_of t)) (lines_say long (old.line + 1) t (words_at 10 more))
+    → (long : Bool) (more : List ℕ) → from_here long old ((front ++ 10 ∷ []) ++ more) ≡ cond (is_done t.section) (Ok t.parts) (lines_say long (old.line + 1) t (words_at 10 more))
 end_well old front t one two h long more =
     rw (seam old.pending.items front more) (ends_well long old.line (view old.draft) t (old.pending.items ++ front) more (strip_carriage_return (old.pending.items ++ front)) (unbroken_both old.pending.items front one two) refl h)
 

@@ -11,15 +11,14 @@ use Rattle.lg_model.specs.declared.scenario.Flow.{Flow}
 use Rattle.lg_model.specs.declared.scenario.Step.{Step}
 use Rattle.lg_model.specs.declared.scenario.Step.TheVariants as steps
 use Rattle.lg_model.specs.declared.scenario.Ask.{Ask}
-use Rattle.lg_model.specs.Scenario.{Scenario, IsFlow, IsStep, IsAsk, packet_count, burst_of, is_end_of}
+use Rattle.lg_model.specs.Keeping.{IsFlow, IsStep, IsAsk, names_of, ends_of, AreApart, IsHost, host_names}
+use Rattle.lg_model.specs.Scenario.{Scenario, packet_count, burst_of, is_end_of}
 use Rattle.scenario_lines.specs.declared.section.Section.TheVariants as sections
 use Rattle.scenario_lines.specs.declared.section.Section.TheVariants.{Declarations, Steps, Done}
 use Rattle.scenario_lines.specs.Sections.{is_done}
-use Rattle.scenario_lines.specs.Counts.{names_of, ends_of}
-use Rattle.scenario_lines.specs.Readable.{AreApart, IsHostLine, IsFlowLine, IsStepLine, IsAskLine}
 use Rattle.text_out.specs.Words.{Words, joined}
-use Rattle.scenario_lines.specs.Spelling.{line_text, guardian_words, shape_line_words, pick_line_words, host_words, switch_words, host_names, flow_words, link_words, step_words, ask_words, done_words}
-use Rattle.scenario_lines.specs.Draft.{State, start, scenario_of}
+use Rattle.scenario_lines.specs.Spelling.{line_text, guardian_words, shape_line_words, pick_line_words, host_words, switch_words, flow_words, link_words, step_words, ask_words, done_words}
+use Rattle.scenario_lines.specs.Draft.{State, start}
 use Rattle.scenario_lines.specs.Line.{line_of}
 use Rattle.scenario_text.specs.Text.{lines_say, reading}
 use Rattle.scenario_parts.specs.Printed.{lines_text, link_text, first_text, declared_text, happening_text, text_of}
@@ -49,7 +48,7 @@ before s t ws more w ok line still then = λ long n.
     let next : lines_say long (n + 1) t (parts.0 ∷ parts.1) ≡ Ok w = ap (lines_say long (n + 1) t) (sym parts.2) ∙ then long (n + 1) in
     rw (split, plain_bare (joined ws) (joined_plain ws ok), line, still) next
 
-last : (s t : State) (ws : Words) → AreWords ws → line_of s (joined ws) ≡ Ok t → is_done t.section ≡ true → Reads s (line_text ws) (scenario_of t)
+last : (s t : State) (ws : Words) → AreWords ws → line_of s (joined ws) ≡ Ok t → is_done t.section ≡ true → Reads s (line_text ws) t.parts
 unfolding lines_say
 last s t ws ok line ended = λ long n.
     let split : words_at 10 (line_text ws) ≡ joined ws ∷ [] ∷ [] = slice_split_at (λ b. eqb b 10) (joined ws) 10 [] (plain_unbroken (joined ws) (joined_plain ws ok)) refl in
@@ -81,24 +80,24 @@ so_far w hosts switches flows ts asks = record { shape = w.shape; pick = w.pick;
 -- ---- declarations
 
 host_names_small : (w : Scenario) → IsWhole w → All (λ n. n < 65536) (host_names w.hosts)
-host_names_small w h = names_small (λ (g : HostLine). g.name) w.hosts (λ i d lt. let line = h.lines.hosts i d lt in line.name)
+host_names_small w h = names_small (λ (g : HostLine). g.name) w.hosts (λ i d lt. let line = h.scenario.hosts.each i d lt in line.name)
 
 flow_names_small : (w : Scenario) → IsWhole w → All (λ n. n < 65536) (names_of w.flows)
-flow_names_small w h = names_small (λ (f : Flow). f.name) w.flows (λ i d lt. let line = h.lines.flows i d lt in line.name)
+flow_names_small w h = names_small (λ (f : Flow). f.name) w.flows (λ i d lt. let line = h.scenario.flows.each i d lt in line.name)
 
 host_one : (w : Scenario) → IsWhole w → (done rest : List HostLine) (x : HostLine) (more : List ℕ) → w.hosts ≡ done ++ x ∷ rest → Reads (at_state Declarations (so_far w (map bare (done ++ x ∷ [])) [] [] [] [])) more w → Reads (at_state Declarations (so_far w (map bare done) [] [] [] [])) (line_text (host_words x) ++ more) w
 host_one w h done rest x more is then =
-    let line : IsHostLine x = at_seam IsHostLine done rest x (subst (λ (xs : List HostLine). All IsHostLine xs) is h.lines.hosts) in
-    let apart : AreApart (map (λ (g : HostLine). g.name) (done ++ x ∷ rest)) = subst (λ (xs : List HostLine). AreApart (host_names xs)) is h.lines.own_hosts in
+    let line : IsHost x = at_seam IsHost done rest x (subst (λ (xs : List HostLine). All IsHost xs) is h.scenario.hosts.each) in
+    let apart : AreApart (map (λ (g : HostLine). g.name) (done ++ x ∷ rest)) = subst (λ (xs : List HostLine). AreApart (host_names xs)) is h.scenario.hosts.own in
     let new : list_any (λ g. eqb g.name x.name) (map bare done) ≡ false = list_any-map (λ g. eqb g.name x.name) bare done ∙ sym (list_any-map (λ m. eqb m x.name) (λ (g : HostLine). g.name) done) ∙ things_fresh (λ (g : HostLine). g.name) done rest x apart in
-    let few : length (map bare done) < 64 = omega (arith, length-map done bare, ap length is, length-append done (x ∷ rest), h.fits.few_hosts) in
+    let few : length (map bare done) < 64 = omega (arith, length-map done bare, ap length is, length-append done (x ∷ rest), h.scenario.hosts.few) in
     before (at_state Declarations (so_far w (map bare done) [] [] [] [])) (at_state Declarations (so_far w (map bare done ++ bare x ∷ []) [] [] [] [])) (host_words x) more w (host_are_words x line.name) (host_read (so_far w (map bare done) [] [] [] []) x line.name new few) refl (rw (map-append bare done (x ∷ [])) at then)
 
 switch_one : (w : Scenario) → IsWhole w → (hosts : List HostLine) (done rest : List ℕ) (n : ℕ) (more : List ℕ) → w.switches ≡ done ++ n ∷ rest → Reads (at_state Declarations (so_far w hosts (done ++ n ∷ []) [] [] [])) more w → Reads (at_state Declarations (so_far w hosts done [] [] [])) (line_text (switch_words n) ++ more) w
 switch_one w h hosts done rest n more is then =
-    let small : n < 65536 = at_seam (λ m. m < 65536) done rest n (subst (λ (xs : List ℕ). All (λ m. m < 65536) xs) is h.lines.switches) in
-    let new = name_fresh done rest n (subst AreApart is h.lines.own_switches) in
-    let few : length done < 64 = omega (arith, ap length is, length-append done (n ∷ rest), h.fits.few_switches) in
+    let small : n < 65536 = at_seam (λ m. m < 65536) done rest n (subst (λ (xs : List ℕ). All (λ m. m < 65536) xs) is h.scenario.switches.each) in
+    let new = name_fresh done rest n (subst AreApart is h.scenario.switches.own) in
+    let few : length done < 64 = omega (arith, ap length is, length-append done (n ∷ rest), h.scenario.switches.few) in
     before (at_state Declarations (so_far w hosts done [] [] [])) (at_state Declarations (so_far w hosts (done ++ n ∷ []) [] [] [])) (switch_words n) more w (switch_are_words n small) (switch_read (so_far w hosts done [] [] []) n small new few) refl then
 
 pub bare_names : (hosts : List HostLine) → host_names (map bare hosts) ≡ host_names hosts
@@ -107,19 +106,17 @@ bare_names (h ∷ hosts) = ap (λ (ns : List ℕ). h.name ∷ ns) (bare_names ho
 
 flow_one : (w : Scenario) → IsWhole w → (done rest : List Flow) (f : Flow) (more : List ℕ) → w.flows ≡ done ++ f ∷ rest → Reads (at_state Declarations (so_far w (map bare w.hosts) w.switches (done ++ f ∷ []) [] [])) more w → Reads (at_state Declarations (so_far w (map bare w.hosts) w.switches done [] [])) (line_text (flow_words w.hosts w.switches f) ++ more) w
 flow_one w h done rest f more is then =
-    let fit : IsFlow (length w.hosts) (length w.switches) f = at_seam (IsFlow (length w.hosts) (length w.switches)) done rest f (subst (λ (xs : List Flow). All (IsFlow (length w.hosts) (length w.switches)) xs) is h.fits.flows) in
-    let line : IsFlowLine f = at_seam IsFlowLine done rest f (subst (λ (xs : List Flow). All IsFlowLine xs) is h.lines.flows) in
-    let apart : AreApart (map (λ (g : Flow). g.name) (done ++ f ∷ rest)) = subst (λ (xs : List Flow). AreApart (names_of xs)) is h.lines.own_flows in
+    let fit : IsFlow (length w.hosts) (length w.switches) f = at_seam (IsFlow (length w.hosts) (length w.switches)) done rest f (subst (λ (xs : List Flow). All (IsFlow (length w.hosts) (length w.switches)) xs) is h.scenario.flows.each) in
+    let apart : AreApart (map (λ (g : Flow). g.name) (done ++ f ∷ rest)) = subst (λ (xs : List Flow). AreApart (names_of xs)) is h.scenario.flows.own in
     let good : FlowFits (so_far w (map bare w.hosts) w.switches done [] []) w.hosts f = record {
       names = bare_names w.hosts;
       fits = rw (length-map w.hosts bare) fit;
-      line = line;
-      own_hosts = rw (bare_names w.hosts) h.lines.own_hosts;
+      own_hosts = rw (bare_names w.hosts) h.scenario.hosts.own;
       host_name = rw (bare_names w.hosts) (host_names_small w h f.host_at 0 (omega (arith, fit.host, length-map w.hosts (λ (g : HostLine). g.name))));
-      own_switches = h.lines.own_switches;
-      small_switches = h.lines.switches;
+      own_switches = h.scenario.switches.own;
+      small_switches = h.scenario.switches.each;
       new_flow = things_fresh (λ (g : Flow). g.name) done rest f apart;
-      room_left = omega (arith, ap length is, length-append done (f ∷ rest), h.lines.few_flows);
+      room_left = omega (arith, ap length is, length-append done (f ∷ rest), h.scenario.flows.few);
     } in
     before (at_state Declarations (so_far w (map bare w.hosts) w.switches done [] [])) (at_state Declarations (so_far w (map bare w.hosts) w.switches (done ++ f ∷ []) [] [])) (flow_words w.hosts w.switches f) more w (flow_are_words (so_far w (map bare w.hosts) w.switches done [] []) w.hosts f good) (flow_read (so_far w (map bare w.hosts) w.switches done [] []) w.hosts f good) refl then
 
@@ -129,12 +126,12 @@ no_letters (l ∷ ls) e = absurd (omega arith)
 
 link_one : (w : Scenario) → IsWhole w → (done rest : List HostLine) (x : HostLine) (more : List ℕ) → w.hosts ≡ done ++ x ∷ rest → Reads (at_state Declarations (so_far w ((done ++ x ∷ []) ++ map bare rest) w.switches w.flows [] [])) more w → Reads (at_state Declarations (so_far w (done ++ map bare (x ∷ rest)) w.switches w.flows [] [])) (link_text x ++ more) w
 link_one w h done rest x more is then = by_letters (eqb (length x.letters) 0) refl where
-  line : IsHostLine x
-  line = at_seam IsHostLine done rest x (subst (λ (xs : List HostLine). All IsHostLine xs) is h.lines.hosts)
+  line : IsHost x
+  line = at_seam IsHost done rest x (subst (λ (xs : List HostLine). All IsHost xs) is h.scenario.hosts.each)
 
   new : list_any (λ g. eqb g.name x.name) done ≡ false
   new =
-      let apart : AreApart (map (λ (g : HostLine). g.name) (done ++ x ∷ rest)) = subst (λ (xs : List HostLine). AreApart (host_names xs)) is h.lines.own_hosts in
+      let apart : AreApart (map (λ (g : HostLine). g.name) (done ++ x ∷ rest)) = subst (λ (xs : List HostLine). AreApart (host_names xs)) is h.scenario.hosts.own in
       sym (list_any-map (λ m. eqb m x.name) (λ (g : HostLine). g.name) done) ∙ things_fresh (λ (g : HostLine). g.name) done rest x apart
 
   then_here : Reads (at_state Declarations (so_far w (done ++ x ∷ map bare rest) w.switches w.flows [] [])) more w
@@ -176,31 +173,30 @@ same n = grind arith
 
 step_are_words : (w : Scenario) → IsWhole w → (done rest : List Step) (t : Step) → w.steps ≡ done ++ t ∷ rest → AreWords (step_words w.flows w.switches t) × ((b : Bool) → line_of (at_state (section_of b) (so_far w w.hosts w.switches w.flows done [])) (joined (step_words w.flows w.switches t)) ≡ Ok (at_state Steps (so_far w w.hosts w.switches w.flows (done ++ t ∷ []) [])))
 step_are_words w h done rest (steps.Packet at size delays burst x) is =
-    let fit = at_seam (IsStep (length w.switches) w.flows) done rest (steps.Packet at size delays burst x) (subst (λ (xs : List Step). All (IsStep (length w.switches) w.flows) xs) is h.fits.steps) in
-    let line = at_seam IsStepLine done rest (steps.Packet at size delays burst x) (subst (λ (xs : List Step). All IsStepLine xs) is h.lines.steps) in
-    let flow = h.fits.flows at (get_or w.flows at (record { name = 0; key = record { src = []; dst = []; proto = 0; sport = 0; dport = 0 }; host_at = 0; path = [] })) fit.0 in
+    let fit = at_seam (IsStep (length w.switches) w.flows) done rest (steps.Packet at size delays burst x) (subst (λ (xs : List Step). All (IsStep (length w.switches) w.flows) xs) is h.scenario.steps.each) in
+    let flow = h.scenario.flows.each at (get_or w.flows at (record { name = 0; key = record { src = []; dst = []; proto = 0; sport = 0; dport = 0 }; host_at = 0; path = [] })) fit.flow in
     let good : PacketFits (so_far w w.hosts w.switches w.flows done []) at size delays burst x = record {
-      flow = fit.0;
-      own_flows = h.lines.own_flows;
-      name = flow_names_small w h at 0 (omega (arith, fit.0, length-map w.flows (λ (f : Flow). f.name)));
-      small = line.0;
-      hops = fit.1;
-      short = short_path at fit.0;
-      delays = line.1;
-      some = line.2;
-      fate = fit.2;
-      packets = count_seam w done rest (steps.Packet at size delays burst x) is h.fits.few_packets;
+      flow = fit.flow;
+      own_flows = h.scenario.flows.own;
+      name = flow_names_small w h at 0 (omega (arith, fit.flow, length-map w.flows (λ (f : Flow). f.name)));
+      small = fit.size;
+      hops = fit.hops;
+      short = short_path at fit.flow;
+      delays = fit.each_delay;
+      some = fit.some;
+      fate = fit.reach;
+      packets = count_seam w done rest (steps.Packet at size delays burst x) is h.scenario.steps.few_packets;
     } in
     (packet_are_words (so_far w w.hosts w.switches w.flows done []) at size delays burst x good, λ b. packet_read b (so_far w w.hosts w.switches w.flows done []) at size delays burst x good)
   where
     short_path : (i : ℕ) → i < length w.flows → length (get_or w.flows i (record { name = 0; key = record { src = []; dst = []; proto = 0; sport = 0; dport = 0 }; host_at = 0; path = [] })).path ≤ 16
-    short_path i lt = let f = h.fits.flows i (record { name = 0; key = record { src = []; dst = []; proto = 0; sport = 0; dport = 0 }; host_at = 0; path = [] }) lt in f.few_hops
+    short_path i lt = let f = h.scenario.flows.each i (record { name = 0; key = record { src = []; dst = []; proto = 0; sport = 0; dport = 0 }; host_at = 0; path = [] }) lt in f.few_hops
 step_are_words w h done rest (steps.End at) is =
-    let fit : at < length w.switches = at_seam (IsStep (length w.switches) w.flows) done rest (steps.End at) (subst (λ (xs : List Step). All (IsStep (length w.switches) w.flows) xs) is h.fits.steps) in
-    let small = h.lines.switches at 0 fit in
-    (end_are_words (get_or w.switches at 0) small, λ b. end_read b (so_far w w.hosts w.switches w.flows done []) at fit h.lines.own_switches small (ends_seam w done rest (steps.End at) at is (h.fits.few_ends at fit) (same at)))
+    let fit : at < length w.switches = at_seam (IsStep (length w.switches) w.flows) done rest (steps.End at) (subst (λ (xs : List Step). All (IsStep (length w.switches) w.flows) xs) is h.scenario.steps.each) in
+    let small = h.scenario.switches.each at 0 fit in
+    (end_are_words (get_or w.switches at 0) small, λ b. end_read b (so_far w w.hosts w.switches w.flows done []) at fit h.scenario.switches.own small (ends_seam w done rest (steps.End at) at is (h.scenario.steps.few_ends at fit) (same at)))
 step_are_words w h done rest steps.EndAll is =
-    ((refl, (refl, tt)), λ b. end_all_read b (so_far w w.hosts w.switches w.flows done []) (λ i lt. ends_seam w done rest steps.EndAll i is (h.fits.few_ends i lt) refl))
+    ((refl, (refl, tt)), λ b. end_all_read b (so_far w w.hosts w.switches w.flows done []) (λ i lt. ends_seam w done rest steps.EndAll i is (h.scenario.steps.few_ends i lt) refl))
 step_are_words w h done rest steps.Release is = ((refl, tt), λ b. release_read b (so_far w w.hosts w.switches w.flows done []))
 
 step_one : (w : Scenario) → IsWhole w → (done rest : List Step) (t : Step) (more : List ℕ) → w.steps ≡ done ++ t ∷ rest → Reads (at_state (section_of (some (done ++ t ∷ []))) (so_far w w.hosts w.switches w.flows (done ++ t ∷ []) [])) more w → Reads (at_state (section_of (some done)) (so_far w w.hosts w.switches w.flows done [])) (line_text (step_words w.flows w.switches t) ++ more) w
@@ -210,12 +206,11 @@ step_one w h done rest t more is then =
 
 ask_one : (w : Scenario) → IsWhole w → (done rest : List Ask) (q : Ask) (more : List ℕ) → w.asks ≡ done ++ q ∷ rest → Reads (at_state (section_of (some w.steps || some (done ++ q ∷ []))) (so_far w w.hosts w.switches w.flows w.steps (done ++ q ∷ []))) more w → Reads (at_state (section_of (some w.steps || some done)) (so_far w w.hosts w.switches w.flows w.steps done)) (line_text (ask_words w.flows q) ++ more) w
 ask_one w h done rest q more is then =
-    let fit : q.flow_at < length w.flows = at_seam (IsAsk w.flows) done rest q (subst (λ (xs : List Ask). All (IsAsk w.flows) xs) is h.fits.asks) in
-    let line : IsAskLine w.switches q = at_seam (IsAskLine w.switches) done rest q (subst (λ (xs : List Ask). All (IsAskLine w.switches) xs) is h.lines.asks) in
-    let name = flow_names_small w h q.flow_at 0 (omega (arith, fit, length-map w.flows (λ (f : Flow). f.name))) in
-    let few : length done < 10000 = omega (arith, ap length is, length-append done (q ∷ rest), h.lines.few_asks) in
+    let line : IsAsk w.switches w.flows q = at_seam (IsAsk w.switches w.flows) done rest q (subst (λ (xs : List Ask). All (IsAsk w.switches w.flows) xs) is h.scenario.asks.each) in
+    let name = flow_names_small w h q.flow_at 0 (omega (arith, line.flow, length-map w.flows (λ (f : Flow). f.name))) in
+    let few : length done < 10000 = omega (arith, ap length is, length-append done (q ∷ rest), h.scenario.asks.few) in
     let v = so_far w w.hosts w.switches w.flows w.steps done in
-    before (at_state (section_of (some w.steps || some done)) v) (at_state Steps (so_far w w.hosts w.switches w.flows w.steps (done ++ q ∷ []))) (ask_words w.flows q) more w (ask_are_words v q name line.switch line.epoch) (ask_read (some w.steps || some done) v q fit h.lines.own_flows name line.declared line.switch line.epoch few) refl (rw (some_push done q, or_some (some w.steps)) at then)
+    before (at_state (section_of (some w.steps || some done)) v) (at_state Steps (so_far w w.hosts w.switches w.flows w.steps (done ++ q ∷ []))) (ask_words w.flows q) more w (ask_are_words v q name line.switch line.epoch) (ask_read (some w.steps || some done) v q line.flow h.scenario.flows.own name line.declared line.switch line.epoch few) refl (rw (some_push done q, or_some (some w.steps)) at then)
 
 -- ---- the whole text
 
@@ -242,10 +237,10 @@ three s w a b c more reads = rw (append_assoc a (b ++ c) more, append_assoc b c 
 
 first : (w : Scenario) (more : List ℕ) → IsWhole w → Reads (at_state Declarations (so_far w [] [] [] [] [])) more w → Reads start (first_text w ++ more) w
 first w more h then =
-    let w0 = scenario_of start in
+    let w0 = start.parts in
     let w1 : Scenario = record w0 { shape = w.shape } in
-    let third = before (at_state sections.Pick w1) (at_state Declarations (so_far w [] [] [] [] [])) (pick_line_words w.pick) more w (pick_are_words w.pick h.lines.pick) (pick_read w1 w.pick h.lines.pick) refl then in
-    let second = before (at_state sections.Shape w0) (at_state sections.Pick w1) (shape_line_words w.shape) (line_text (pick_line_words w.pick) ++ more) w (shape_are_words w.shape h.fits.shape h.lines.hash) (shape_read w0 w.shape h.fits.shape h.lines.hash) refl third in
+    let third = before (at_state sections.Pick w1) (at_state Declarations (so_far w [] [] [] [] [])) (pick_line_words w.pick) more w (pick_are_words w.pick h.scenario.pick) (pick_read w1 w.pick h.scenario.pick) refl then in
+    let second = before (at_state sections.Shape w0) (at_state sections.Pick w1) (shape_line_words w.shape) (line_text (pick_line_words w.pick) ++ more) w (shape_are_words w.shape h.scenario.shape h.scenario.hash) (shape_read w0 w.shape h.scenario.shape h.scenario.hash) refl third in
     let one = before (at_state sections.Version w0) (at_state sections.Shape w0) guardian_words (line_text (shape_line_words w.shape) ++ (line_text (pick_line_words w.pick) ++ more)) w (refl, (refl, tt)) (guardian_read w0) refl second in
     three start w (line_text guardian_words) (line_text (shape_line_words w.shape)) (line_text (pick_line_words w.pick)) more one
 

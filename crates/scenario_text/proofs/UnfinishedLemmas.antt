@@ -11,7 +11,7 @@ use Rattle.lg_model.specs.Scenario.{Scenario}
 use Rattle.scenario_lines.specs.declared.why.Why.{Why}
 use Rattle.scenario_lines.specs.declared.why.Why.TheVariants.{NoDone, TooLong}
 use Rattle.scenario_lines.specs.Sections.{is_done}
-use Rattle.scenario_lines.specs.Draft.{State, start, scenario_of}
+use Rattle.scenario_lines.specs.Draft.{State, start}
 use Rattle.scenario_lines.specs.Line.{line_of}
 use Rattle.scenario_text.specs.Text.{Fault, at_end, after_line, after_len, lines_say, reading, decide, deciding_len, deciding, IsUnfinished}
 use Rattle.scenario_text.specs.Reading.{IsUnbroken}
@@ -41,7 +41,7 @@ last_line true n m why r h = sym (ap line_in h)
 last_line false n m why (Err e) h = sym (ap line_in h)
 last_line false n m why (Ok t) h = by_case (is_done t.section) refl where
   by_case : (d : Bool) → is_done t.section ≡ d → m ≡ n
-  by_case true e = let said = rw e at h in not_said (scenario_of t) (m, why) said
+  by_case true e = let said = rw e at h in not_said t.parts (m, why) said
   by_case false e = let said = rw e at h in sym (ap line_in said)
 
 record IsLast (xs : List ℕ) (n m : ℕ) (s : State) : Type 0 where
@@ -65,7 +65,7 @@ line_then : (line more : List ℕ) (b : Bool) (n m : ℕ) (why : Why) (r : Resul
 line_then line more b n m why (Err e) un of rest h = absurd (not_of_a_line why un (subst IsOfALine (ap why_in h) of.why))
 line_then line more b n m why (Ok t) un of rest h = by_case (is_done t.section) refl where
   by_case : (d : Bool) → is_done t.section ≡ d → (m + 1 ≡ (n + 1) + length (words_at 10 more)) × (after_len (Ok t) (λ u. decide u (words_at 10 more)) ≡ length more)
-  by_case true e = let said = rw e at h in not_said (scenario_of t) (m, why) said
+  by_case true e = let said = rw e at h in not_said t.parts (m, why) said
   by_case false e =
       let said : lines_say b (n + 1) t (words_at 10 more) ≡ Err (m, why) = rw e at h in
       let k = rest b (n + 1) m t why un said in

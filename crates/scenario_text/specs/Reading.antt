@@ -3,7 +3,7 @@ use Rattle.std.specs.Prelude.{◌≡◌, ℕ, ◌+◌, ◌≤◌, ◌-◌, ◌==
 use Rattle.flow_key.specs.Words.{words_at}
 use Rattle.lg_model.specs.declared.limits.TheConstants.{MOST_TEXT_BYTES}
 use Rattle.lg_model.specs.Scenario.{Scenario}
-use Rattle.scenario_lines.specs.Draft.{view, scenario_of, FitsSoFar}
+use Rattle.scenario_lines.specs.Draft.{view, FitsSoFar}
 use Rattle.scenario_lines.specs.PrintedLen.{printed_len}
 use Rattle.scenario_parts.specs.Printed.{text_of}
 use Rattle.scenario_text.specs.declared.fault.ScenarioFault.{ScenarioFault}
@@ -32,7 +32,7 @@ from_here long r more = lines_say long r.line (view r.draft) (words_at 10 (r.pen
 
 -- What feeding did: the same is said as before, of whatever follows.
 abbrev pub Fed : Reader → List ℕ → Reader → Result Bool ScenarioFault → Type 0
-Fed old piece new (Ok true) = (long : Bool) (more : List ℕ) → from_here long old (piece ++ more) ≡ Ok (scenario_of (view new.draft))
+Fed old piece new (Ok true) = (long : Bool) (more : List ℕ) → from_here long old (piece ++ more) ≡ Ok (view new.draft).parts
 Fed old piece new (Ok false) = (long : Bool) (more : List ℕ) → from_here long old (piece ++ more) ≡ from_here long new more
 Fed old piece new (Err (faults.Bad line why)) = (long : Bool) (more : List ℕ) → from_here long old (piece ++ more) ≡ Err (line, why)
 Fed old piece new (Err faults.ReadFault) = ⊥
@@ -57,7 +57,7 @@ len_so_far r = printed_len (view r.draft) + length r.pending.items
 -- What the parts take when they are printed after feeding this many bytes: no more bytes than were fed. After `done`
 -- that is the text of the scenario.
 abbrev pub Holds : Reader → ℕ → Reader → Result Bool ScenarioFault → Type 0
-Holds old count new (Ok true) = length (text_of (scenario_of (view new.draft))) ≤ len_so_far old + count
+Holds old count new (Ok true) = length (text_of (view new.draft).parts) ≤ len_so_far old + count
 Holds old count new (Ok false) = len_so_far new ≤ len_so_far old + count
 Holds old count new (Err e) = Unit {0}
 

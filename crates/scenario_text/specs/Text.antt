@@ -8,7 +8,7 @@ use Rattle.lg_model.specs.Scenario.{Scenario}
 use Rattle.scenario_lines.specs.declared.why.Why.{Why}
 use Rattle.scenario_lines.specs.declared.why.Why.TheVariants.{NoDone, TooLong}
 use Rattle.scenario_lines.specs.Sections.{is_done}
-use Rattle.scenario_lines.specs.Draft.{State, start, scenario_of}
+use Rattle.scenario_lines.specs.Draft.{State, start}
 use Rattle.scenario_lines.specs.Line.{line_of}
 use Rattle.scenario_text.specs.declared.fault.ScenarioFault.{ScenarioFault}
 use Rattle.scenario_text.specs.declared.fault.ScenarioFault.TheVariants as faults
@@ -20,12 +20,12 @@ Fault = ℕ × Why
 -- The last line of an input, which has no 0A.
 abbrev pub at_end : ℕ → Result State Why → Result Scenario Fault
 at_end n (Err why) = Err (n, why)
-at_end n (Ok s) = if is_done s.section then Ok (scenario_of s) else Err (n, NoDone)
+at_end n (Ok s) = if is_done s.section then Ok s.parts else Err (n, NoDone)
 
 -- What follows a line that has its 0A: nothing after `done` or a fault, else the next line.
 abbrev pub after_line : ℕ → Result State Why → (State → Result Scenario Fault) → Result Scenario Fault
 after_line n (Err why) next = Err (n, why)
-after_line n (Ok s) next = if is_done s.section then Ok (scenario_of s) else next s
+after_line n (Ok s) next = if is_done s.section then Ok s.parts else next s
 
 -- What the parts between the bytes 0A say, from line n and a state on; the last part has no 0A. `long` says that the
 -- input has as many bytes as a text may not have.

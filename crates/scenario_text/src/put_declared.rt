@@ -2,9 +2,9 @@
 ghost use Rattle.std.specs.Prelude.{◌≡◌, ◌<◌, ◌++◌, ◌∷◌, [], All, length, slice_index, nat_lt, OnOk, codes, true};
 ghost use Rattle.std.specs.List.{flat_map, list_all};
 ghost use Rattle.std.specs.Fmt.{decimal};
-ghost use Rattle.lg_model.specs.Scenario.{IsFlow};
+ghost use Rattle.lg_model.specs.Keeping.{IsFlow, host_names};
 ghost use Rattle.text_out.specs.Words.{spaced, joined};
-ghost use Rattle.scenario_lines.specs.Spelling.{line_text, host_words, switch_words, key_parts, path_words, flow_words, link_words, host_names};
+ghost use Rattle.scenario_lines.specs.Spelling.{line_text, host_words, switch_words, key_parts, path_words, flow_words, link_words};
 ghost use Rattle.scenario_parts.specs.Printed.{lines_text, link_text};
 
 use crate::put::{put_key, put_letters, put_next, put_path};

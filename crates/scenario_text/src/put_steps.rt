@@ -1,8 +1,7 @@
 //! The steps and the asks, added to a text.
 ghost use Rattle.std.specs.Prelude.{◌≡◌, ◌<◌, ◌++◌, ◌∷◌, [], All, length, map, slice_index, OnOk, codes};
 ghost use Rattle.std.specs.Fmt.{decimal};
-ghost use Rattle.lg_model.specs.Scenario.{IsStep, IsAsk};
-ghost use Rattle.scenario_lines.specs.Counts.{names_of};
+ghost use Rattle.lg_model.specs.Keeping.{IsStep, IsAsk, names_of};
 ghost use Rattle.text_out.specs.Words.{spaced, joined};
 ghost use Rattle.scenario_lines.specs.Spelling.{line_text, burst_words, fate_words, step_words, ask_words, done_words};
 ghost use Rattle.scenario_parts.specs.Printed.{lines_text};

@@ -2,7 +2,7 @@
 ghost use Rattle.std.specs.Prelude.{◌≡◌, ◌≢◌, ◌+◌, ◌<◌, ◌≤◌, ◌^◌, ◌++◌, [], ◌∷◌, length, IfSome, IfNone, IfErr, OnOk, Err, true, false};
 ghost use Rattle.std.specs.Str.Lines.{strip_carriage_return};
 ghost use Rattle.lg_model.specs.declared.limits.TheConstants.{MOST_TEXT_BYTES};
-ghost use Rattle.scenario_lines.specs.Draft.{view, start, scenario_of, FitsSoFar};
+ghost use Rattle.scenario_lines.specs.Draft.{view, start, FitsSoFar};
 ghost use Rattle.scenario_lines.specs.Fields.{LeavesState};
 ghost use Rattle.scenario_lines.specs.Line.{line_of};
 ghost use Rattle.scenario_lines.specs.PrintedLen.{printed_len};
@@ -188,8 +188,8 @@ impl Reader {
     // The scenario of the lines so far.
     pub(crate) fn scenario(self) -> Scenario
         requires fits { FitsSoFar self.draft }
-        requires short { length (text_of (scenario_of (view self.draft))) ≤ MOST_TEXT_BYTES }
-        ensures { result ≡ scenario_of (view self.draft) }
+        requires short { length (text_of (view self.draft).parts) ≤ MOST_TEXT_BYTES }
+        ensures { result ≡ (view self.draft).parts }
     {
         let Reader { draft, .. } = self;
         Scenario::of(draft)

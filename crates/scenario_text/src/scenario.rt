@@ -1,18 +1,18 @@
 //! Scenarios.
 ghost use Rattle.std.specs.Prelude.{◌≡◌, ◌≤◌, length, IfSome, IfNone, Ok};
 ghost use Rattle.lg_model.specs.declared.limits.TheConstants.{MOST_TEXT_BYTES};
-ghost use Rattle.lg_model.specs.Scenario as model;
+ghost use Rattle.lg_model.specs.Keeping.{IsScenario};
 ghost use Rattle.scenario_parts.specs.Parts.{AreInRange};
 ghost use Rattle.scenario_parts.specs.Printed.{text_of};
 ghost use Rattle.scenario_parts.specs.Whole.{IsWhole};
 ghost use Rattle.scenario_text.specs.Text.{reading};
 ghost use Rattle.scenario_text.specs.New.{parts_of, IsUnsaid};
-ghost use Rattle.scenario_lines.specs.Draft.{view, scenario_of, FitsSoFar};
+ghost use Rattle.scenario_lines.specs.Draft.{view, FitsSoFar};
 
-use lg_model::{Ask, Flow, HostLine, Pick, Step};
+use lg_model::{Ask, Flow, HostLine, Parts, Pick, Step};
 use row_hash::Shape;
 use scenario_lines::Draft;
-use scenario_parts::Parts;
+use scenario_parts::is_whole;
 use std::marker::Model;
 
 /// A scenario (docs/FORMATS.md, Scenario text): a shape, a pick, and lists of hosts, switches, flows, steps and asks.
@@ -21,13 +21,7 @@ use std::marker::Model;
 /// has at most 16,777,216 bytes, so that what is printed can be read again.
 #[derive(Debug, Drop)]
 pub struct Scenario {
-    shape: Shape,
-    pick: Pick,
-    hosts: Vec<HostLine>,
-    switches: Vec<u16>,
-    flows: Vec<Flow>,
-    steps: Vec<Step>,
-    asks: Vec<Ask>,
+    pub(crate) parts: Parts,
 }
 
 impl Model for Scenario {
@@ -36,9 +30,9 @@ impl Model for Scenario {
 
     ghost Value = { model.Scenario };
 
-    ghost view = { λ s. record { shape = s.shape; pick = s.pick; hosts = s.hosts.items; switches = s.switches.items; flows = s.flows.items; steps = s.steps.items; asks = s.asks.items } };
+    ghost view = { λ s. model.scenario_of s.parts };
 
-    ghost invariant = { λ s. whole.IsWhole (record { shape = s.shape; pick = s.pick; hosts = s.hosts.items; switches = s.switches.items; flows = s.flows.items; steps = s.steps.items; asks = s.asks.items }) };
+    ghost invariant = { λ s. whole.IsWhole (model.scenario_of s.parts) };
 }
 
 impl Scenario {
@@ -68,115 +62,76 @@ impl Scenario {
             steps,
             asks,
         };
-        if !parts.is_whole() {
+        if !is_whole(&parts) {
             return None;
         }
-        let Parts {
-            shape,
-            pick,
-            hosts,
-            switches,
-            flows,
-            steps,
-            asks,
-        } = parts;
-        Some(Scenario {
-            shape,
-            pick,
-            hosts,
-            switches,
-            flows,
-            steps,
-            asks,
-        })
+        Some(Scenario { parts })
     }
 
     // The scenario of what the lines of a text have said.
     pub(crate) fn of(draft: Draft) -> Scenario
         requires fits { FitsSoFar draft }
-        requires short { length (text_of (scenario_of (view draft))) ≤ MOST_TEXT_BYTES }
-        ensures { result ≡ scenario_of (view draft) }
+        requires short { length (text_of (view draft).parts) ≤ MOST_TEXT_BYTES }
+        ensures { result ≡ (view draft).parts }
     {
-        let Draft {
-            rows,
-            width,
-            hash,
-            pick,
-            hosts,
-            switches,
-            flows,
-            steps,
-            asks,
-            ..
-        } = draft;
-        match Shape::new(rows, width, hash) {
-            None => unreachable!(),
-            Some(shape) => Scenario {
-                shape,
-                pick,
-                hosts,
-                switches,
-                flows,
-                steps,
-                asks,
-            },
-        }
+        let Draft { parts, .. } = draft;
+        Scenario { parts }
     }
 
     /// The shape of the sketches of every switch. Clause `whole` says what every scenario keeps.
     pub fn shape(&self) -> Shape
         ensures value { result ≡ self.now.shape }
-        ensures fits { model.IsScenario self.now }
+        ensures fits { IsScenario self.now }
         ensures whole { IsWhole self.now }
     {
-        self.shape
+        self.parts.shape
     }
 
     /// How every switch chooses the columns that packets carry.
     pub fn pick(&self) -> &Pick
         ensures value { result.now ≡ self.now.pick }
-        ensures fits { model.IsScenario self.now }
+        ensures fits { IsScenario self.now }
     {
-        &self.pick
+        &self.parts.pick
     }
 
     /// The hosts, at most 64, each with the letters of its link.
     pub fn hosts(&self) -> &[HostLine]
         ensures value { result.now ≡ self.now.hosts }
-        ensures fits { model.IsScenario self.now }
+        ensures fits { IsScenario self.now }
     {
-        &self.hosts
+        &self.parts.hosts
     }
 
     /// The names of the switches, at most 64.
     pub fn switches(&self) -> &[u16]
         ensures value { result.now ≡ self.now.switches }
-        ensures fits { model.IsScenario self.now }
+        ensures fits { IsScenario self.now }
     {
-        &self.switches
+        &self.parts.switches
     }
 
     /// The flows, at most 4,096.
     pub fn flows(&self) -> &[Flow]
         ensures value { result.now ≡ self.now.flows }
-        ensures fits { model.IsScenario self.now }
+        ensures fits { IsScenario self.now }
     {
-        &self.flows
+        &self.parts.flows
     }
 
     /// What happens, in order: at most 1,000,000 packets with bursts, and at most 65,535 ends of each switch.
     pub fn steps(&self) -> &[Step]
         ensures value { result.now ≡ self.now.steps }
-        ensures fits { model.IsScenario self.now }
+        ensures fits { IsScenario self.now }
     {
-        &self.steps
+        &self.parts.steps
     }
 
     /// The questions, at most 10,000.
     pub fn asks(&self) -> &[Ask]
         ensures value { result.now ≡ self.now.asks }
-        ensures fits { model.IsScenario self.now }
+        ensures fits { IsScenario self.now }
     {
-        &self.asks
+        &self.parts.asks
     }
 }

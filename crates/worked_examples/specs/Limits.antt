@@ -1,5 +1,5 @@
 -- The limits: a scenario at most of them, and what is past each, by computation and by cases.
-use Rattle.std.specs.Prelude.{◌≡◌, ℕ, ◌^◌, List, [], ◌∷◌, replicate}
+use Rattle.std.specs.Prelude.{◌≡◌, ℕ, ◌^◌, List, [], ◌∷◌, map, replicate}
 use Rattle.std.specs.List.{range_with_len}
 use Rattle.flow_key.specs.KeyText.{IsAddress, Fits}
 use Rattle.lg_model.specs.declared.limits.TheConstants.{MOST_ROWS, MOST_WIDTH, LAST_BYTES, LAST_DELAY, MOST_TEXT_BYTES}
@@ -19,10 +19,11 @@ use Rattle.lg_model.specs.declared.scenario.Step.TheVariants.{Packet, End, EndAl
 use Rattle.lg_model.specs.declared.column.Bucket.{Bucket}
 use Rattle.lg_model.specs.Columns.{Column}
 use Rattle.lg_model.specs.Placing.{IsShape}
-use Rattle.lg_model.specs.Scenario.{Scenario, IsScenario, IsFlow, IsStep}
+use Rattle.lg_model.specs.Keeping.{IsScenario, IsFlow, IsStep, IsHost, IsAsk}
+use Rattle.lg_model.specs.Scenario.{Scenario}
 use Rattle.sketchlet_wire.specs.Spelling.{IsColumn, FitsBucket, FitsKey}
 use Rattle.column_book.specs.declared.book.TheConstants.{ROOM}
-use Rattle.scenario_lines.specs.Readable.{IsHashRange, IsPickRange, IsHostLine, IsFlowLine, IsStepLine, IsAskLine}
+use Rattle.lg_model.specs.Ranges.{IsHashRange, IsPickRange}
 use Rattle.worked_examples.specs.Networks.{bucket, key_of, cells, ports, flow, host, ask}
 
 -- A flow by 16 switches.
@@ -38,7 +39,7 @@ abbrev pub greatest : Scenario
 greatest = record {
   shape = record { rows = 8; width = 4096; hash = Ports };
   pick = Turns;
-  hosts = replicate 64 (host 1);
+  hosts = map host (range_with_len 0 64);
   switches = range_with_len 0 64;
   flows = long ∷ [];
   steps = sends (replicate 16 1) 1000000 (Lost 16) ∷ EndAll ∷ [];
@@ -62,8 +63,8 @@ pub record WorkedLimits : Type 0 where
   pub nine_rows : IsShape 9 1 → ⊥
   pub no_width : IsShape 1 0 → ⊥
   pub wide : IsShape 1 4097 → ⊥
-  pub hosts : IsScenario (record greatest { hosts = replicate 65 (host 1) }) → ⊥
-  pub switches : IsScenario (record greatest { switches = replicate 65 1 }) → ⊥
+  pub hosts : IsScenario (record greatest { hosts = map host (range_with_len 0 65) }) → ⊥
+  pub switches : IsScenario (record greatest { switches = range_with_len 0 65 }) → ⊥
   pub packets : IsScenario (record greatest { steps = sends (replicate 16 1) 1000001 Straight ∷ [] }) → ⊥
   pub other_ask : IsScenario (record greatest { asks = ask 1 0 0 ∷ [] }) → ⊥
   pub no_hops : IsFlow 64 64 (record long { path = [] }) → ⊥
@@ -77,14 +78,14 @@ pub record WorkedLimits : Type 0 where
   -- the ranges of what a line says
   pub seed : IsHashRange (Seed (2 ^ 64)) → ⊥
   pub pick : IsPickRange (Chance (2 ^ 64)) → ⊥
-  pub host_name : IsHostLine (host 65536) → ⊥
-  pub flow_name : IsFlowLine (record long { name = 65536 }) → ⊥
-  pub twice_by : IsFlowLine (record long { path = 3 ∷ 4 ∷ 3 ∷ [] }) → ⊥
-  pub size : IsStepLine (Packet 0 65536 [] 1 Straight) → ⊥
-  pub delay : IsStepLine (Packet 0 1 (4294967296 ∷ []) 1 Straight) → ⊥
-  pub burst : IsStepLine (Packet 0 1 [] 0 Straight) → ⊥
-  pub undeclared : IsAskLine (1 ∷ 2 ∷ []) (ask 0 3 0) → ⊥
-  pub epoch : IsAskLine (1 ∷ 2 ∷ []) (ask 0 2 4294967296) → ⊥
+  pub host_name : IsHost (host 65536) → ⊥
+  pub flow_name : IsFlow 64 64 (record long { name = 65536 }) → ⊥
+  pub twice_by : IsFlow 64 64 (record long { path = 3 ∷ 4 ∷ 3 ∷ [] }) → ⊥
+  pub size : IsStep 64 (long ∷ []) (Packet 0 65536 (replicate 16 1) 1 Straight) → ⊥
+  pub delay : IsStep 64 (long ∷ []) (sends (4294967296 ∷ replicate 15 1) 1 Straight) → ⊥
+  pub burst : IsStep 64 (long ∷ []) (sends (replicate 16 1) 0 Straight) → ⊥
+  pub undeclared : IsAsk (1 ∷ 2 ∷ []) (long ∷ []) (ask 0 3 0) → ⊥
+  pub epoch : IsAsk (1 ∷ 2 ∷ []) (long ∷ []) (ask 0 2 4294967296) → ⊥
   -- keys and columns
   pub five : IsAddress (1 ∷ 2 ∷ 3 ∷ 4 ∷ 5 ∷ []) → ⊥
   pub not_a_byte : IsAddress (1 ∷ 2 ∷ 3 ∷ 256 ∷ []) → ⊥

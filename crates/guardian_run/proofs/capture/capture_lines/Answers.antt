@@ -30,15 +30,15 @@ loop-at-preserved c =
       few = omega (
         arith,
         c.loop-at.invariant.few,
-        few_came w c.args.arrivals.now c.arrived-arrived.result.now at c.hosts-hosts.ensures.fits.few_packets c.requires inside c.arrived-arrived.ensures,
+        few_came w c.args.arrivals.now c.arrived-arrived.result.now at c.hosts-hosts.ensures.fits.steps.few_packets c.requires inside c.arrived-arrived.ensures,
       );
     }
 
 pub overflow_add-count : goal.overflow_add-count
 overflow_add-count c =
     let w = c.args.scenario.now in
-    let low : c.loop-at.at < 64 = omega (arith, c.loop-at-test.true, ap length c.hosts-hosts.ensures.value, c.hosts-hosts.ensures.fits.few_hosts) in
+    let low : c.loop-at.at < 64 = omega (arith, c.loop-at-test.true, ap length c.hosts-hosts.ensures.value, c.hosts-hosts.ensures.fits.hosts.few) in
     let inside : c.loop-at.at < length w.hosts = omega (arith, c.loop-at-test.true, ap length c.hosts-hosts.ensures.value) in
-    let few = few_came w c.args.arrivals.now c.arrived-arrived.result.now c.loop-at.at c.hosts-hosts.ensures.fits.few_packets c.requires inside
+    let few = few_came w c.args.arrivals.now c.arrived-arrived.result.now c.loop-at.at c.hosts-hosts.ensures.fits.steps.few_packets c.requires inside
     c.arrived-arrived.ensures in
     Fits-of_lt (omega (arith, low, c.loop-at.invariant.few, few))

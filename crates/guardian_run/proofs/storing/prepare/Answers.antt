@@ -12,5 +12,5 @@ pub returns-clause-few : goal.returns-clause-few
 returns-clause-few c =
     let w = c.args.scenario.now in
     let count = senders_count w (length w.hosts) c.in_ok-senders.senders.items c.in_ok-senders.ensures in
-    let few : length w.hosts ≤ 64 = c.requires.fits.fits.few_hosts in
+    let few : length w.hosts ≤ 64 = c.requires.fits.scenario.hosts.few in
     omega (arith, count, few)

@@ -23,7 +23,7 @@ new-requires-clause-columns c =
 
 pub new-requires-clause-count : goal.new-requires-clause-count
 new-requires-clause-count c =
-    few_came c.args.scenario.now c.args.arrivals.now c.arrived-arrived.result.now c.args.at c.requires.fits.fits.few_packets c.requires.arrived
+    few_came c.args.scenario.now c.args.arrivals.now c.arrived-arrived.result.now c.args.at c.requires.fits.scenario.steps.few_packets c.requires.arrived
     c.requires.declared c.arrived-arrived.ensures
 
 pub returns : goal.returns

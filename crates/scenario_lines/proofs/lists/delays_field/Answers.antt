@@ -20,7 +20,6 @@ loop-preserved c = record {
   same = rw c.push_reserved.ensures.items (delays_more c.args.path.now c.loop.index c.loop.delays.items (words_left 32 (option_copied c.loop.left)) (c.in_ok-delay.delay, words_left 32 (option_copied c.in_ok-delay.rest)) (delays c.args.path.now [] (words_left 32 (option_copied c.args.text))) c.loop-test.true c.in_ok-delay.ensures.gives c.loop.invariant.same);
   taken = omega (arith, ap (λ (ds : List ℕ). size (map decimal ds)) c.push_reserved.ensures.items, size_push c.loop.delays.items c.in_ok-delay.delay, c.in_ok-delay.ensures.taken);
   count = omega (arith, ap length c.push_reserved.ensures.items, length-append c.loop.delays.items (c.in_ok-delay.delay ∷ []));
-  held = omega arith;
   room = omega arith;
   small = rw c.push_reserved.ensures.items (All-push (λ d. d < 4294967296) c.loop.delays.items c.in_ok-delay.delay c.loop.invariant.small (omega (arith, c.in_ok-delay.ensures.bound)));
 }

@@ -1,4 +1,4 @@
-use Rattle.std.proofs.Common.{◌≡◌, ◌+◌, ◌<◌, All, [], drop, length, map, vec_len, vec_capacity}
+use Rattle.std.proofs.Common.{◌≡◌, ◌+◌, ◌<◌, ◌≤◌, All, [], drop, length, map}
 use Rattle.std.specs.Fmt.{decimal}
 use Rattle.std.specs.Option.{option_copied}
 use Rattle.flow_key.specs.Words.{words_left}
@@ -11,7 +11,6 @@ invariant-loop l = record {
   same : delays (drop l.index l.path) l.delays.items (words_left 32 (option_copied l.left)) ≡ delays l.path [] (words_left 32 (option_copied l.fn.text));
   taken : size (map decimal l.delays.items) + size (words_left 32 (option_copied l.left)) ≡ size (words_left 32 (option_copied l.fn.text));
   count : length l.delays.items ≡ l.index;
-  held : vec_len l.delays ≡ l.index;
-  room : vec_capacity l.delays ≡ length l.path;
+  room : length l.path ≤ l.delays.capacity;
   small : All (λ d. d < 4294967296) l.delays.items;
 }

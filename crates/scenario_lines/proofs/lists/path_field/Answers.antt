@@ -5,7 +5,7 @@ use Rattle.std.proofs.lemmas.Result.{err_from_is_err_and}
 use Rattle.flow_key.specs.Words.{words_left}
 use Rattle.scenario_lines.specs.Spelling.{size, path_words}
 use Rattle.scenario_lines.specs.Fields.{path}
-use Rattle.scenario_lines.proofs.ReadableLemmas.{apart_push}
+use Rattle.scenario_lines.proofs.NameLemmas.{apart_push}
 use Rattle.scenario_lines.proofs.PathLemmas.{path_more, path_bad}
 use Rattle.scenario_lines.proofs.SizeLemmas.{hop_more}
 use Rattle.scenario_lines.proofs.lists.path_field.Goals as goal

@@ -2,7 +2,7 @@ use Rattle.std.proofs.Common.{◌≡◌, ◌≤◌, ◌<◌, ◌+◌, [], length
 use Rattle.std.specs.Option.{option_copied}
 use Rattle.flow_key.specs.Words.{words_left}
 use Rattle.scenario_lines.specs.Spelling.{size, path_words}
-use Rattle.scenario_lines.specs.Readable.{AreApart}
+use Rattle.lg_model.specs.Keeping.{AreApart}
 use Rattle.scenario_lines.specs.Fields.{path}
 use Rattle.scenario_lines.proofs.lists.path_field.Given as goal
 

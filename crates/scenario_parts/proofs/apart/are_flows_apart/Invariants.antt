@@ -1,6 +1,5 @@
 use Rattle.std.proofs.Common.{take}
-use Rattle.scenario_lines.specs.Readable.{AreApart}
-use Rattle.scenario_lines.specs.Counts.{names_of}
+use Rattle.lg_model.specs.Keeping.{AreApart, names_of}
 use Rattle.scenario_parts.proofs.apart.are_flows_apart.Given as goal
 
 abbrev pub invariant-loop-i : goal.invariant-loop-i

@@ -1,6 +1,5 @@
 use Rattle.std.proofs.Common.{take}
-use Rattle.scenario_lines.specs.Readable.{AreApart}
-use Rattle.scenario_lines.specs.Spelling.{host_names}
+use Rattle.lg_model.specs.Keeping.{AreApart, host_names}
 use Rattle.scenario_parts.proofs.apart.are_hosts_apart.Given as goal
 
 abbrev pub invariant-loop-i : goal.invariant-loop-i

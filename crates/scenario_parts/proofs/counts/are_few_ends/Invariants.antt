@@ -1,6 +1,6 @@
 use Rattle.std.proofs.Common.{◌≡◌, ◌+◌, ◌≤◌, ◌<◌, ℕ, take, length}
 use Rattle.std.specs.Prelude.{slice_index}
-use Rattle.scenario_lines.specs.Counts.{ends_of}
+use Rattle.lg_model.specs.Keeping.{ends_of}
 use Rattle.scenario_parts.proofs.counts.are_few_ends.Given as goal
 
 abbrev pub invariant-loop-step : goal.invariant-loop-step

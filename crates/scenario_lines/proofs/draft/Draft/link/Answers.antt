@@ -1,6 +1,6 @@
 use Rattle.std.proofs.Common.{arith, ap, length, ℕ}
 use Rattle.scenario_lines.specs.Draft.{view}
-use Rattle.scenario_lines.proofs.ScenarioLemmas.{host_linked}
+use Rattle.scenario_lines.proofs.KeepingLemmas.{host_linked}
 use Rattle.scenario_lines.proofs.WeightLemmas.{link_weighs}
 use Rattle.std.specs.Fmt.{decimal}
 use Rattle.scenario_lines.proofs.draft.Draft.link.Goals as goal

@@ -1,7 +1,7 @@
 use Rattle.std.proofs.Common.{arith}
 use Rattle.scenario_lines.specs.Draft.{view}
 use Rattle.scenario_lines.specs.declared.section.Section.TheVariants.{Declarations}
-use Rattle.scenario_lines.proofs.ScenarioLemmas.{picked, before_pick}
+use Rattle.scenario_lines.proofs.KeepingLemmas.{picked, before_pick}
 use Rattle.scenario_lines.proofs.WeightLemmas.{pick_weighs}
 use Rattle.scenario_lines.proofs.draft.Draft.pick.Goals as goal
 

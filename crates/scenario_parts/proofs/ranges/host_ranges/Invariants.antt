@@ -1,5 +1,0 @@
-use Rattle.std.proofs.Common.{All, take, ◌<◌}
-use Rattle.scenario_parts.proofs.ranges.host_ranges.Given as goal
-
-abbrev pub invariant-loop-host : goal.invariant-loop-host
-invariant-loop-host l = All (λ h. h.name < 65536) (take l.host-index l.hosts)
