@@ -19,17 +19,6 @@ use Rattle.scenario_lines.specs.PrintedLen.{frame_size, link_size, declared_size
 use Rattle.scenario_lines.proofs.SizeLemmas.{size_append}
 use Rattle.scenario_lines.proofs.WeightLemmas.{sum_same}
 use Rattle.scenario_parts.specs.Printed.{lines_text, link_text, first_text, declared_text, happening_text, text_of}
-use Rattle.scenario_parts.specs.Lengths.{LeavesRoom}
-
--- One part takes more than is left, so all take more than there was.
-pub ran_out : {X : Type 0} (f : X → ℕ) (xs : List X) (i : ℕ) (d : X) (room left : ℕ) → i < length xs → left + sum_by f (take i xs) ≡ room → (f (get_or xs i d) ≤ left → ⊥) → room < sum_by f xs
-ran_out f xs i d room left lt so over = by_room (cases_lt left (f (get_or xs i d))) where
-  by_room : (left < f (get_or xs i d)) ⊎ (f (get_or xs i d) ≤ left) → room < sum_by f xs
-  by_room (inl less) = omega (arith, sum_by_more_le f xs i d lt, so, less)
-  by_room (inr more) = absurd (over more)
-
-pub ran_out_item : {X : Type 0} (f : X → ℕ) (xs : List X) (i : ℕ) (x : X) (room left : ℕ) → i < length xs → x ≡ get_or xs i x → left + sum_by f (take i xs) ≡ room → (f x ≤ left → ⊥) → room < sum_by f xs
-ran_out_item f xs i x room left lt is so over = ran_out f xs i x room left lt so (rw is at over)
 
 -- The delays, the burst and the fate of a packet.
 pub tail_size : (ds : List ℕ) (n : ℕ) (x : Fate) → size (map decimal ds ++ (burst_words n ++ fate_words x)) ≡ size (map decimal ds) + (size (burst_words n) + size (fate_words x))
@@ -94,12 +83,3 @@ happening_size_is w =
 -- The text has the bytes of its lines.
 pub text_size : (w : Scenario) → length (text_of w) ≡ frame_size Done w.shape w.pick + (declared_size w.hosts w.switches w.flows + happening_size w.switches w.flows w.steps w.asks)
 text_size w = omega (arith, length-append (first_text w) (declared_text w ++ happening_text w), length-append (declared_text w) (happening_text w), first_size w, declared_size_is w, happening_size_is w)
-
--- The declarations take more than the frame leaves.
-pub over_text : (w : Scenario) (frame : ℕ) → frame ≡ frame_size Done w.shape w.pick → frame ≤ 16777216 → 16777216 - frame < declared_size w.hosts w.switches w.flows → 16777216 < length (text_of w)
-over_text w frame is few over = omega (arith, text_size w, is, few, over)
-
--- What is left after the frame, the declarations, and the steps and the asks.
-pub text_leaves : (w : Scenario) (frame room : ℕ) (o : Option ℕ) → frame ≡ frame_size Done w.shape w.pick → frame ≤ 16777216 → room + declared_size w.hosts w.switches w.flows ≡ 16777216 - frame → LeavesRoom room (happening_size w.switches w.flows w.steps w.asks) o → LeavesRoom 16777216 (length (text_of w)) o
-text_leaves w frame room (Some left) is few declared happening = omega (arith, text_size w, is, few, declared, happening)
-text_leaves w frame room None is few declared happening = omega (arith, text_size w, is, few, declared, happening)

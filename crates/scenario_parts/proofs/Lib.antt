@@ -3,3 +3,4 @@ pub mod ApartLemmas
 pub mod CountLemmas
 pub mod LengthLemmas
 pub mod WholeLemmas
+pub mod PrintLemmas

@@ -1,10 +1,8 @@
 -- What is tested of the lists is what a scenario keeps.
-use Rattle.std.proofs.Common.{◌≤◌, ℕ, Option, Some, None, length, refl, arith}
+use Rattle.std.proofs.Common.{◌≤◌, Bool, length}
 use Rattle.std.specs.Prelude.{Decides}
-use Rattle.std.specs.Option.{is_some}
 use Rattle.lg_model.specs.Scenario.{Scenario}
-use Rattle.scenario_parts.specs.Lengths.{LeavesRoom}
-use Rattle.scenario_parts.specs.Lists.{AreDeclared, AreNamed, AreSteps, AreAsks}
+use Rattle.scenario_parts.specs.Lists.{AreDeclared, AreNamed, AreSteps, AreAsks, ArePrintable}
 use Rattle.scenario_parts.specs.Parts.{AreRanges}
 use Rattle.scenario_parts.specs.Printed.{text_of}
 use Rattle.scenario_parts.specs.Whole.{IsWhole}
@@ -38,7 +36,14 @@ whole_is w ranges declared happening short = record {
   short = short;
 }
 
--- With what is left of the room for its text.
-pub whole_by_room : (w : Scenario) (o : Option ℕ) → AreRanges w → AreDeclared w.hosts w.switches w.flows × AreNamed w.hosts w.switches w.flows → AreSteps w.switches w.flows w.steps × AreAsks w.switches w.flows w.asks → LeavesRoom 16777216 (length (text_of w)) o → Decides (is_some o) (IsWhole w)
-whole_by_room w (Some left) ranges declared happening leaves = (λ _. whole_is w ranges declared happening (omega (arith, leaves)), λ _. refl)
-whole_by_room w None ranges declared happening leaves = (λ e. absurd cc, λ whole. absurd (omega (arith, leaves, whole.short)))
+-- What the flows, the steps and the asks speak of is there.
+pub printable_is : (w : Scenario) → AreDeclared w.hosts w.switches w.flows × AreNamed w.hosts w.switches w.flows → AreSteps w.switches w.flows w.steps × AreAsks w.switches w.flows w.asks → ArePrintable w
+printable_is w declared happening = record {
+  flows = λ i d lt. (declared.0.flows_fit i d lt).0;
+  steps = λ i d lt. (happening.0.steps_fit i d lt).0;
+  asks = λ i d lt. (happening.1.asks_fit i d lt).0;
+}
+
+-- With the length of its text.
+pub whole_by_length : (w : Scenario) (short : Bool) → AreRanges w → AreDeclared w.hosts w.switches w.flows × AreNamed w.hosts w.switches w.flows → AreSteps w.switches w.flows w.steps × AreAsks w.switches w.flows w.asks → Decides short (length (text_of w) ≤ 16777216) → Decides short (IsWhole w)
+whole_by_length w short ranges declared happening decides = (λ is. whole_is w ranges declared happening (decides.0 is), λ whole. decides.1 whole.short)

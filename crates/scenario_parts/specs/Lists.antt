@@ -5,7 +5,7 @@ use Rattle.lg_model.specs.declared.scenario.HostLine.{HostLine}
 use Rattle.lg_model.specs.declared.scenario.Flow.{Flow}
 use Rattle.lg_model.specs.declared.scenario.Step.{Step}
 use Rattle.lg_model.specs.declared.scenario.Ask.{Ask}
-use Rattle.lg_model.specs.Scenario.{IsFlow, IsStep, IsAsk, packet_count}
+use Rattle.lg_model.specs.Scenario.{Scenario, IsFlow, IsStep, IsAsk, packet_count}
 use Rattle.scenario_lines.specs.Counts.{names_of, ends_of}
 use Rattle.scenario_lines.specs.Spelling.{host_names}
 use Rattle.scenario_lines.specs.Readable.{AreApart, IsHostLine, IsFlowLine, IsStepLine, IsAskLine}
@@ -34,3 +34,9 @@ pub record AreSteps (switches : List ℕ) (flows : List Flow) (steps : List Step
 pub record AreAsks (switches : List ℕ) (flows : List Flow) (asks : List Ask) : Type 0 where
   pub few_asks : length asks ≤ MOST_ASKS
   pub asks_fit : All (λ q. IsAsk flows q × IsAskLine switches q) asks
+
+-- What flows, steps and asks speak of is there, so that their lines can be printed.
+pub record ArePrintable (w : Scenario) : Type 0 where
+  pub flows : All (IsFlow (length w.hosts) (length w.switches)) w.flows
+  pub steps : All (IsStep (length w.switches) w.flows) w.steps
+  pub asks : All (IsAsk w.flows) w.asks

@@ -3,15 +3,20 @@
 //! | Item | What it is |
 //! |---|---|
 //! | [`Parts`] | a shape, a pick, and lists of hosts, switches, flows, steps and asks; tells whether they make a scenario |
-#![tactic(auto)]
+//! | [`put_parts`] | puts the text of parts, or counts its bytes |
+#![tactic(auto, using(text_out::proofs::Putting::grown_on, text_out::proofs::Putting::grown_none, text_out::proofs::Putting::put_is, text_out::proofs::Putting::put_or_not_is))]
 
 mod apart;
 mod counts;
 mod fits;
-mod lengths;
 mod lists;
 mod parts;
+mod printing;
+mod put;
+mod put_declared;
+mod put_first;
+mod put_steps;
 mod ranges;
-mod sums;
 
 pub use parts::Parts;
+pub use printing::put_parts;

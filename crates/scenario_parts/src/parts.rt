@@ -1,23 +1,15 @@
 //! The parts of a scenario together.
-ghost use Rattle.std.specs.Prelude.{◌≡◌, ◌≤◌, All, length, Decides};
-ghost use Rattle.lg_model.specs.declared.limits.TheConstants.{MOST_TEXT_BYTES, MOST_SWITCHES};
-ghost use Rattle.lg_model.specs.Scenario.{IsFlow, IsStep, IsAsk};
-ghost use Rattle.scenario_lines.specs.declared.section.Section.TheVariants.{Done};
-ghost use Rattle.scenario_lines.specs.Readable.{IsHostLine};
-ghost use Rattle.scenario_lines.specs.PrintedLen.{frame_size, declared_size, happening_size};
-ghost use Rattle.scenario_parts.specs.Lengths.{LeavesRoom};
+ghost use Rattle.std.specs.Prelude.{◌≤◌, length, Decides};
+ghost use Rattle.lg_model.specs.declared.limits.TheConstants.{MOST_SWITCHES};
 ghost use Rattle.scenario_parts.specs.Lists.{AreDeclared, AreNamed, AreSteps, AreAsks};
 ghost use Rattle.scenario_parts.specs.Parts.{AreRanges};
-ghost use Rattle.scenario_parts.specs.Printed.{text_of};
 ghost use Rattle.scenario_parts.specs.Whole.{IsWhole};
 
-use crate::lengths::{pick_len, shape_len};
 use crate::lists::{are_declared, are_happening};
+use crate::printing::is_short;
 use crate::ranges::{
     ask_ranges, flow_ranges, hash_range, host_ranges, pick_range, step_ranges, switch_ranges,
 };
-use crate::sums::{without_declared, without_happening};
-use lg_model::limits::MOST_TEXT_BYTES;
 use lg_model::{Ask, Flow, HostLine, Pick, Step};
 use row_hash::Shape;
 use std::marker::Model;
@@ -78,43 +70,6 @@ impl Parts {
         are_happening(&self.switches, &self.flows, &self.steps, &self.asks)
     }
 
-    // The bytes of the first three lines and of the last.
-    fn frame_len(&self) -> usize
-        ensures value { result ≡ frame_size Done self.now.shape self.now.pick }
-        ensures bound { result ≤ 124 }
-    {
-        16 + shape_len(self.shape) + pick_len(self.pick)
-    }
-
-    fn without_declared(&self, room: usize) -> Option<usize>
-        requires hosts { All IsHostLine self.now.hosts }
-        requires flows { All (IsFlow (length self.now.hosts) (length self.now.switches)) self.now.flows }
-        ensures { LeavesRoom room (declared_size self.now.hosts self.now.switches self.now.flows) result }
-    {
-        without_declared(room, &self.hosts, &self.switches, &self.flows)
-    }
-
-    fn without_happening(&self, room: usize) -> Option<usize>
-        requires flows { All (IsFlow (length self.now.hosts) (length self.now.switches)) self.now.flows }
-        requires steps { All (IsStep (length self.now.switches) self.now.flows) self.now.steps }
-        requires asks { All (IsAsk self.now.flows) self.now.asks }
-        ensures { LeavesRoom room (happening_size self.now.switches self.now.flows self.now.steps self.now.asks) result }
-    {
-        without_happening(room, &self.switches, &self.flows, &self.steps, &self.asks)
-    }
-
-    // What the text leaves of the most bytes that a text may have; nothing where it is longer.
-    fn room_left(&self) -> Option<usize>
-        requires hosts { All IsHostLine self.now.hosts }
-        requires flows { All (IsFlow (length self.now.hosts) (length self.now.switches)) self.now.flows }
-        requires steps { All (IsStep (length self.now.switches) self.now.flows) self.now.steps }
-        requires asks { All (IsAsk self.now.flows) self.now.asks }
-        ensures { LeavesRoom MOST_TEXT_BYTES (length (text_of self.now)) result }
-    {
-        let room = self.without_declared(MOST_TEXT_BYTES - self.frame_len())?;
-        self.without_happening(room)
-    }
-
     /// Whether the parts make a scenario: all positions are in range, no limit is passed, hosts, switches and flows have
     /// names of their own, each flow goes by 1 to 16 switches, each once, each packet has a delay for each hop and
     /// reaches no more hops than there are, each burst is of at least one packet, each ask is of a switch that is
@@ -132,6 +87,6 @@ impl Parts {
         if !self.is_happening() {
             return false;
         }
-        self.room_left().is_some()
+        is_short(self)
     }
 }

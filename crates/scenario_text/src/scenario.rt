@@ -21,13 +21,7 @@ use std::marker::Model;
 /// has at most 16,777,216 bytes, so that what is printed can be read again.
 #[derive(Debug, Drop)]
 pub struct Scenario {
-    shape: Shape,
-    pick: Pick,
-    hosts: Vec<HostLine>,
-    switches: Vec<u16>,
-    flows: Vec<Flow>,
-    steps: Vec<Step>,
-    asks: Vec<Ask>,
+    parts: Parts,
 }
 
 impl Model for Scenario {
@@ -36,9 +30,9 @@ impl Model for Scenario {
 
     ghost Value = { model.Scenario };
 
-    ghost view = { λ s. record { shape = s.shape; pick = s.pick; hosts = s.hosts.items; switches = s.switches.items; flows = s.flows.items; steps = s.steps.items; asks = s.asks.items } };
+    ghost view = { λ s. s.parts };
 
-    ghost invariant = { λ s. whole.IsWhole (record { shape = s.shape; pick = s.pick; hosts = s.hosts.items; switches = s.switches.items; flows = s.flows.items; steps = s.steps.items; asks = s.asks.items }) };
+    ghost invariant = { λ s. whole.IsWhole s.parts };
 }
 
 impl Scenario {
@@ -71,24 +65,7 @@ impl Scenario {
         if !parts.is_whole() {
             return None;
         }
-        let Parts {
-            shape,
-            pick,
-            hosts,
-            switches,
-            flows,
-            steps,
-            asks,
-        } = parts;
-        Some(Scenario {
-            shape,
-            pick,
-            hosts,
-            switches,
-            flows,
-            steps,
-            asks,
-        })
+        Some(Scenario { parts })
     }
 
     // The scenario of what the lines of a text have said.
@@ -112,15 +89,25 @@ impl Scenario {
         match Shape::new(rows, width, hash) {
             None => unreachable!(),
             Some(shape) => Scenario {
-                shape,
-                pick,
-                hosts,
-                switches,
-                flows,
-                steps,
-                asks,
+                parts: Parts {
+                    shape,
+                    pick,
+                    hosts,
+                    switches,
+                    flows,
+                    steps,
+                    asks,
+                },
             },
         }
+    }
+
+    // The parts.
+    pub(crate) fn parts(&self) -> &Parts
+        ensures value { result.now ≡ self.now }
+        ensures whole { IsWhole self.now }
+    {
+        &self.parts
     }
 
     /// The shape of the sketches of every switch. Clause `whole` says what every scenario keeps.
@@ -129,7 +116,7 @@ impl Scenario {
         ensures fits { model.IsScenario self.now }
         ensures whole { IsWhole self.now }
     {
-        self.shape
+        self.parts.shape
     }
 
     /// How every switch chooses the columns that packets carry.
@@ -137,7 +124,7 @@ impl Scenario {
         ensures value { result.now ≡ self.now.pick }
         ensures fits { model.IsScenario self.now }
     {
-        &self.pick
+        &self.parts.pick
     }
 
     /// The hosts, at most 64, each with the letters of its link.
@@ -145,7 +132,7 @@ impl Scenario {
         ensures value { result.now ≡ self.now.hosts }
         ensures fits { model.IsScenario self.now }
     {
-        &self.hosts
+        &self.parts.hosts
     }
 
     /// The names of the switches, at most 64.
@@ -153,7 +140,7 @@ impl Scenario {
         ensures value { result.now ≡ self.now.switches }
         ensures fits { model.IsScenario self.now }
     {
-        &self.switches
+        &self.parts.switches
     }
 
     /// The flows, at most 4,096.
@@ -161,7 +148,7 @@ impl Scenario {
         ensures value { result.now ≡ self.now.flows }
         ensures fits { model.IsScenario self.now }
     {
-        &self.flows
+        &self.parts.flows
     }
 
     /// What happens, in order: at most 1,000,000 packets with bursts, and at most 65,535 ends of each switch.
@@ -169,7 +156,7 @@ impl Scenario {
         ensures value { result.now ≡ self.now.steps }
         ensures fits { model.IsScenario self.now }
     {
-        &self.steps
+        &self.parts.steps
     }
 
     /// The questions, at most 10,000.
@@ -177,6 +164,6 @@ impl Scenario {
         ensures value { result.now ≡ self.now.asks }
         ensures fits { model.IsScenario self.now }
     {
-        &self.asks
+        &self.parts.asks
     }
 }
