@@ -1,2 +1,4 @@
 pub mod ApartLemmas
 pub mod CountLemmas
+pub mod LengthLemmas
+pub mod PrintLemmas

@@ -4,7 +4,6 @@ pub mod ReadLemmas
 pub mod TookLemmas
 pub mod DecidingLemmas
 pub mod WorkedTexts
-pub mod PrintLemmas
 pub mod WordsAgain
 pub mod NamesAgain
 pub mod LinesAgain

@@ -17,10 +17,6 @@ mod new_tests;
 #[cfg(test)]
 mod print_tests;
 mod printing;
-mod put;
-mod put_declared;
-mod put_first;
-mod put_steps;
 mod reader;
 mod reading;
 mod scenario;

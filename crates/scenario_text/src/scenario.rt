@@ -2,6 +2,7 @@
 ghost use Rattle.std.specs.Prelude.{◌≡◌, ◌≤◌, length, IfSome, IfNone, Ok};
 ghost use Rattle.lg_model.specs.declared.limits.TheConstants.{MOST_TEXT_BYTES};
 ghost use Rattle.lg_model.specs.Keeping.{IsScenario};
+ghost use Rattle.lg_model.specs.Scenario.{scenario_of};
 ghost use Rattle.scenario_parts.specs.Parts.{AreInRange};
 ghost use Rattle.scenario_parts.specs.Printed.{text_of};
 ghost use Rattle.scenario_parts.specs.Whole.{IsWhole};
@@ -21,7 +22,7 @@ use std::marker::Model;
 /// has at most 16,777,216 bytes, so that what is printed can be read again.
 #[derive(Debug, Drop)]
 pub struct Scenario {
-    pub(crate) parts: Parts,
+    parts: Parts,
 }
 
 impl Model for Scenario {
@@ -76,6 +77,14 @@ impl Scenario {
     {
         let Draft { parts, .. } = draft;
         Scenario { parts }
+    }
+
+    // All parts.
+    pub(crate) fn parts(&self) -> &Parts
+        ensures value { scenario_of result.now ≡ self.now }
+        ensures whole { IsWhole self.now }
+    {
+        &self.parts
     }
 
     /// The shape of the sketches of every switch. Clause `whole` says what every scenario keeps.

@@ -28,7 +28,7 @@ impl TextOut for Vec<u8> {
 }
 
 /// A text of which only the length is looked at. It takes no memory and does not fail.
-#[derive(Debug)]
+#[derive(Debug, Drop)]
 pub struct Room {
     /// How many bytes more the text may have until it is too long: 0 where it is.
     pub left: usize,
