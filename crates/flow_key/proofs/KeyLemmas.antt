@@ -102,10 +102,10 @@ bind_some : {A B : Type 0} (r : Option A) (f : A → Option B) (y : B) → (r >>
 bind_some (Some x) f y e = (x, refl, e)
 bind_some None f y e = absurd cc
 
-abbrev some_of : {A : Type 0} → A → Option A
+abbrev pub some_of : {A : Type 0} → A → Option A
 some_of x = Some x
 
-some_is : {A : Type 0} (x y : A) → some_of x ≡ some_of y → x ≡ y
+pub some_is : {A : Type 0} (x y : A) → some_of x ≡ some_of y → x ≡ y
 some_is x y e = cc
 
 pub word_takes : (most : ℕ) (ws : List (List ℕ)) (x : ℕ × List (List ℕ)) → most < 2 ^ 64 → number_word most ws ≡ Some x → (ws ≡ decimal x.0 ∷ x.1) × (x.0 ≤ most)

@@ -26,7 +26,7 @@ past_step p x xs false e ih h =
     let m : length xs ≤ position_or_len p xs = omega arith in
     rw (slice_split-cons_no p x xs e, ih m) refl
 
-past : (p : ℕ → Bool) (xs : List ℕ) → length xs ≤ position_or_len p xs → slice_split p xs ≡ xs ∷ []
+pub past : (p : ℕ → Bool) (xs : List ℕ) → length xs ≤ position_or_len p xs → slice_split p xs ≡ xs ∷ []
 past p [] h = refl
 past p (x ∷ xs) h = past_step p x xs (p x) refl (past p xs) h
 

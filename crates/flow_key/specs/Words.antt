@@ -1,6 +1,6 @@
 -- Words between single bytes, and numbers written without leading zeros.
-use Rattle.std.specs.Prelude.{ℕ, Bool, false, List, [], Option, Some, None, length, nat_le, nat_lt, ◌&&◌, ◌==◌, if◌then◌else◌, slice_index}
-use Rattle.std.specs.List.{slice_split, list_all}
+use Rattle.std.specs.Prelude.{ℕ, Bool, false, List, [], Option, Some, None, length, nat_le, nat_lt, ◌&&◌, ◌==◌, if◌then◌else◌, slice_index, take}
+use Rattle.std.specs.List.{slice_split, position_or_len, list_all}
 use Rattle.std.specs.Char.{is_ascii_digit}
 use Rattle.std.specs.Str.Parse.{digits_value}
 
@@ -12,6 +12,10 @@ words_at at text = slice_split (λ b. b == at) text
 abbrev pub words_left : ℕ → Option (List ℕ) → List (List ℕ)
 words_left at None = []
 words_left at (Some text) = words_at at text
+
+-- The first word of a text: its bytes before the first byte `at`, all where there is none.
+abbrev pub first_word : ℕ → List ℕ → List ℕ
+first_word at text = take (position_or_len (λ b. b == at) text) text
 
 -- The form of a number: decimal digits, one or more, with no zero in front of others.
 unfoldable pub is_number : List ℕ → Bool

@@ -122,3 +122,35 @@ fn numbers_and_addresses(rt: HostRuntime) {
     assert_eq!(rt; words::address(b"10.0.0.256"), None);
     assert_eq!(rt; words::address(b"10.0.0.1 "), None);
 }
+
+#[test]
+fn numbers_in_front(rt: HostRuntime) {
+    for (text, most, number, rest) in [
+        ("255 1 x", 255, Some(255), Some("1 x")),
+        ("255 ", 255, Some(255), Some("")),
+        ("255", 255, Some(255), None),
+        ("0 x", 0, Some(0), Some("x")),
+        (
+            "18446744073709551615 x",
+            u64::MAX,
+            Some(u64::MAX),
+            Some("x"),
+        ),
+        ("18446744073709551616 x", u64::MAX, None, None),
+        ("256 x", 255, None, None),
+        ("00 x", 255, None, None),
+        ("01", 255, None, None),
+        ("+1 x", 255, None, None),
+        ("1x 2", 255, None, None),
+        (" 1", 255, None, None),
+        ("", 255, None, None),
+    ] {
+        let found = words::number_cut(text.as_bytes(), b' ', most);
+        assert_eq!(rt; found.map(|found| found.0), number, "{text}");
+        assert_eq!(rt;
+            found.and_then(|found| found.1),
+            rest.map(|rest| rest.as_bytes()),
+            "{text}"
+        );
+    }
+}

@@ -1,12 +1,12 @@
 //! Words of a text, and the numbers and addresses that they write.
 
 ghost use Rattle.std.specs.Prelude.{◌≡◌, ◌==◌, ◌∷◌, ◌<◌, ◌^◌, ◌≤◌, IfSome, None, Some, true, ℕ, List, if◌then◌else◌};
-ghost use Rattle.std.specs.List.{position, list_all};
+ghost use Rattle.std.specs.List.{position, position_or_len, list_all};
 ghost use Rattle.std.specs.Char.{is_ascii_digit};
 ghost use Rattle.std.specs.Fmt.{decimal};
 ghost use Rattle.std.specs.Option.{option_copied, option_map};
 ghost use Rattle.std.specs.Str.{bytes_eq};
-ghost use Rattle.flow_key.specs.Words.{words_at, words_left, value_to, number_to};
+ghost use Rattle.flow_key.specs.Words.{words_at, words_left, first_word, value_to, number_to};
 ghost use Rattle.flow_key.specs.KeyText.{number_word, no_more, address_of, dotted, IsAddress};
 
 fn find(text: &[u8], at: u8) -> Option<usize>
@@ -52,41 +52,80 @@ pub fn is(word: &[u8], text: &[u8]) -> bool
     word == text
 }
 
-// The number from 0 to `most` that a word of digits writes. `front` is `most` without its last digit: a number below it
-// stays in range with any digit more, and the front itself with one up to `last`. So nothing wraps at the top of u64.
-fn value(word: &[u8], most: u64) -> Option<u64>
-    ensures value { result ≡ (if list_all is_ascii_digit word.now then value_to most word.now else None) }
-    ensures bound { IfSome result (λ n. n ≤ most) }
+// The number from 0 to `most` that the digits before the first byte `at` write, and how many they are. `front` is `most`
+// without its last digit: a number below it stays in range with any digit more, and the front itself with one up to
+// `last`. So nothing wraps at the top of u64.
+fn digits(text: &[u8], at: u8, most: u64) -> Option<(u64, usize)>
+    ensures value { option_map (λ x. x.0) result ≡ (if list_all is_ascii_digit (first_word at text.now) then value_to most (first_word at text.now) else None) }
+    ensures bound { IfSome result (λ x. x.0 ≤ most) }
+    ensures ends { IfSome result (λ x. x.1 ≡ position_or_len (λ b. b == at) text.now) }
 {
     let front = most / 10;
     let last = most % 10;
     let mut value: u64 = 0;
-    for b in word {
+    let mut count = 0;
+    while count < text.len() {
+        let b = text[count];
+        if b == at {
+            return Some((value, count));
+        }
         if !b.is_ascii_digit() {
             return None;
         }
-        let digit = u64::from(*b - b'0');
+        let digit = u64::from(b - b'0');
         if value >= front && (value > front || digit > last) {
             return None;
         }
         value = value * 10 + digit;
+        count += 1;
     }
-    Some(value)
+    Some((value, count))
 }
 
-// The empty word and a zero in front of others are refused before the digits are read.
-#[tactic(auto, unfolding(crate::specs::Words::number_to, crate::specs::Words::is_number))]
+/// The number from 0 to `most` that the first word of a text writes, and what is left after the byte that ends it, as
+/// by [`cut`] and [`number`], in one pass over the word. `None` where the first word is not the decimal text of such a
+/// number.
+///
+/// ```
+/// number_cut(b"255 x", b' ', 255)     // Some((255, Some(b"x")))
+/// number_cut(b"255 ", b' ', 255)      // Some((255, Some(b"")))
+/// number_cut(b"255", b' ', 255)       // Some((255, None))
+/// number_cut(b"256 x", b' ', 255)     // None
+/// number_cut(b"01 x", b' ', 255)      // None
+/// number_cut(b" x", b' ', 255)        // None
+/// ```
+pub fn number_cut(text: &[u8], at: u8, most: u64) -> Option<(u64, Option<&[u8]>)>
+    ensures value { option_map (λ x. (x.0, words_left at (option_copied x.1))) result ≡ number_word most (words_at at text.now) }
+    ensures bound { IfSome result (λ x. x.0 ≤ most) }
+    ensures spelled { IfSome result (λ x. words_at at text.now ≡ decimal x.0 ∷ words_left at (option_copied x.1)) }
+{
+    let Some((n, count)) = digits(text, at, most) else {
+        return None;
+    };
+    if count == 0 {
+        return None;
+    }
+    if text[0] == b'0' && count > 1 {
+        return None;
+    }
+    if count == text.len() {
+        return Some((n, None));
+    }
+    let (_, rest) = text.split_at(count);
+    let (_, rest) = rest.split_at(1);
+    Some((n, Some(rest)))
+}
+
+// A word in which a space stands is no number, so one that ends before the text does is none.
 fn number_in(word: &[u8], most: u64) -> Option<u64>
     ensures value { result ≡ number_to most word.now }
     ensures bound { IfSome result (λ n. n ≤ most) }
 {
-    if word.is_empty() {
-        return None;
+    match number_cut(word, b' ', most) {
+        None => None,
+        Some((_, Some(_))) => None,
+        Some((n, None)) => Some(n),
     }
-    if word[0] == b'0' && word.len() > 1 {
-        return None;
-    }
-    value(word, most)
 }
 
 /// The number from 0 to `most` that a word writes: decimal digits, one or more, with no zero in front of others.
@@ -119,13 +158,7 @@ pub(crate) fn number_at(text: Option<&[u8]>, at: u8, most: u64) -> Option<(u64, 
 {
     match text {
         None => None,
-        Some(text) => {
-            let (word, rest) = cut(text, at);
-            match number(word, most) {
-                None => None,
-                Some(n) => Some((n, rest)),
-            }
-        }
+        Some(text) => number_cut(text, at, most),
     }
 }
 
