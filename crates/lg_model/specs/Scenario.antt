@@ -25,8 +25,15 @@ pub record Scenario : Type 0 where
 
 -- The scenario that parts are, without where they lie in memory.
 abbrev pub scenario_of : Parts → Scenario
-scenario_of p = record { shape = p.shape; pick = p.pick; hosts = p.hosts.items; switches = p.switches.items; flows = p.flows.items;
-    steps = p.steps.items; asks = p.asks.items }
+scenario_of p = record {
+  shape = p.shape;
+  pick = p.pick;
+  hosts = p.hosts.items;
+  switches = p.switches.items;
+  flows = p.flows.items;
+  steps = p.steps.items;
+  asks = p.asks.items;
+}
 
 -- The flow of no name, for a position that no flow has.
 abbrev pub no_flow : Flow

@@ -7,8 +7,8 @@ ghost use Rattle.scenario_lines.specs.Index.{IsIndexed};
 ghost use Rattle.lg_model.specs.Keeping.{names_of, ends_of};
 
 use crate::section::Section;
-use lg_model::limits::MOST_SWITCHES;
 use lg_model::Parts;
+use lg_model::limits::MOST_SWITCHES;
 
 /// What the lines of a text have said so far: the section and the parts, and what is kept to take the next line
 /// without looking through them.

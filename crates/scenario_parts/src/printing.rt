@@ -10,8 +10,8 @@ ghost use Rattle.lg_model.specs.Scenario.{scenario_of};
 use crate::put_declared::{put_flows, put_hosts, put_links, put_switches};
 use crate::put_first::{put_guardian, put_pick, put_shape};
 use crate::put_steps::{put_asks, put_done, put_steps};
-use lg_model::{Parts, Pick};
 use lg_model::limits::MOST_TEXT_BYTES;
+use lg_model::{Parts, Pick};
 use row_hash::Shape;
 use text_out::{Room, TextOut};
 

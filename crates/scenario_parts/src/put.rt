@@ -35,7 +35,11 @@ pub(crate) fn put_key<T: TextOut>(out: &mut T, key: &FlowKey) -> Result<(), T::F
 }
 
 // The names of the switches of a path, each after a space. A path has at most 16, so the calls are at most 17 deep.
-pub(crate) fn put_path<T: TextOut>(out: &mut T, switches: &[u16], path: &[u16]) -> Result<(), T::Fault>
+pub(crate) fn put_path<T: TextOut>(
+    out: &mut T,
+    switches: &[u16],
+    path: &[u16],
+) -> Result<(), T::Fault>
     requires { list_all (λ at. nat_lt at (length switches.now)) path.now ≡ true }
     ensures { Prints result (T.kind out.old) (T.kind out.new) (spaced (path_words switches.now path.now)) }
 {

@@ -61,7 +61,12 @@ fn put_flow_front<T: TextOut>(out: &mut T, flow: &Flow) -> Result<(), T::Fault>
     put_key(out, &flow.key)
 }
 
-fn put_flow_back<T: TextOut>(out: &mut T, host: u16, switches: &[u16], path: &[u16]) -> Result<(), T::Fault>
+fn put_flow_back<T: TextOut>(
+    out: &mut T,
+    host: u16,
+    switches: &[u16],
+    path: &[u16],
+) -> Result<(), T::Fault>
     requires { list_all (λ at. nat_lt at (length switches.now)) path.now ≡ true }
     ensures { Prints result (T.kind out.old) (T.kind out.new) (spaced (codes "host" ∷ decimal host ∷ codes "path" ∷ path_words switches.now path.now)) }
 {

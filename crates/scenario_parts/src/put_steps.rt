@@ -36,7 +36,12 @@ fn put_fate<T: TextOut>(out: &mut T, fate: Fate) -> Result<(), T::Fault>
     }
 }
 
-fn put_packet_front<T: TextOut>(out: &mut T, name: u16, size: u16, delays: &[u32]) -> Result<(), T::Fault>
+fn put_packet_front<T: TextOut>(
+    out: &mut T,
+    name: u16,
+    size: u16,
+    delays: &[u32],
+) -> Result<(), T::Fault>
     ensures { Prints result (T.kind out.old) (T.kind out.new) (joined (codes "packet" ∷ decimal name ∷ decimal size ∷ map decimal delays.now)) }
 {
     put_bytes(out, b"packet")?;
@@ -103,7 +108,12 @@ fn put_step_words<T: TextOut>(
     }
 }
 
-fn put_step<T: TextOut>(out: &mut T, flows: &[Flow], switches: &[u16], step: &Step) -> Result<(), T::Fault>
+fn put_step<T: TextOut>(
+    out: &mut T,
+    flows: &[Flow],
+    switches: &[u16],
+    step: &Step,
+) -> Result<(), T::Fault>
     requires { IsStep (length switches.now) flows.now step.now }
     ensures { Prints result (T.kind out.old) (T.kind out.new) (line_text (step_words flows.now switches.now step.now)) }
 {
@@ -137,7 +147,11 @@ fn put_ask<T: TextOut>(out: &mut T, flows: &[Flow], ask: &Ask) -> Result<(), T::
     put_bytes(out, b"\n")
 }
 
-pub(crate) fn put_asks<T: TextOut>(out: &mut T, flows: &[Flow], asks: &[Ask]) -> Result<(), T::Fault>
+pub(crate) fn put_asks<T: TextOut>(
+    out: &mut T,
+    flows: &[Flow],
+    asks: &[Ask],
+) -> Result<(), T::Fault>
     requires { All (λ q. q.flow_at < length flows.now) asks.now }
     ensures { Prints result (T.kind out.old) (T.kind out.new) (lines_text (ask_words flows.now) asks.now) }
 {

@@ -23,11 +23,11 @@ returns-clause-text c =
 pub returns-clause-again : goal.returns-clause-again
 returns-clause-again c =
     let text = all_is c.new-out.result.items c.put_parts.new.out.items (scenario_of c.parts.result.now) c.args.scenario.now
-        c.in_ok-put_parts.ensures c.new-out.ensures.items c.parts.ensures.value in
+    c.in_ok-put_parts.ensures c.new-out.ensures.items c.parts.ensures.value in
     subst (λ (xs : List ℕ). reading xs ≡ Ok c.args.scenario.now) (sym text) (printed c.args.scenario.now c.parts.ensures.whole)
 
 pub returns-clause-short : goal.returns-clause-short
 returns-clause-short c =
     let text = all_is c.new-out.result.items c.put_parts.new.out.items (scenario_of c.parts.result.now) c.args.scenario.now
-        c.in_ok-put_parts.ensures c.new-out.ensures.items c.parts.ensures.value in
+    c.in_ok-put_parts.ensures c.new-out.ensures.items c.parts.ensures.value in
     subst (λ (xs : List ℕ). length xs ≤ 16777216) (sym text) c.parts.ensures.whole.short
