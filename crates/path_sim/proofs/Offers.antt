@@ -1,5 +1,6 @@
 -- One offer.
-use Rattle.std.specs.Prelude.{◌≡◌, ℕ, ◌+◌, ◌-◌, ◌<◌, Bool, true, false, List, [], ◌∷◌, ◌++◌, length, slice_index, slice_index_or, slice_set, Option, Some, None, nat_lt, ◌&&◌, ◌==◌, All}
+use Rattle.std.specs.Prelude.{◌≡◌, ℕ, ◌+◌, ◌-◌, ◌<◌, Bool, true, false, List, [], ◌∷◌, ◌++◌, length, slice_index, slice_index_or, slice_set, Option, Some}
+use Rattle.std.specs.Prelude.{None, nat_lt, ◌&&◌, ◌==◌, All}
 use Rattle.std.proofs.Common.{refl, sym, ◌∙◌, subst, arith, rules, tests, inl, inr}
 use Rattle.std.specs.List.{find}
 use Rattle.std.specs.Option.{option_map, is_some}

@@ -1,5 +1,6 @@
 -- The packets of a step, and what stands after it.
-use Rattle.std.specs.Prelude.{◌≡◌, ℕ, ◌+◌, ◌<◌, ◌≤◌, true, false, cond, List, [], ◌++◌, map, take, drop, length, reverse, replicate, slice_set, slice_index_or, count_by, All}
+use Rattle.std.specs.Prelude.{◌≡◌, ℕ, ◌+◌, ◌<◌, ◌≤◌, true, false, cond, List, [], ◌++◌, map, take, drop, length, reverse, replicate, slice_set}
+use Rattle.std.specs.Prelude.{slice_index_or, count_by, All}
 use Rattle.std.specs.List.{flat_map, enumerate_from}
 use Rattle.std.proofs.Common.{refl, sym, ap, ◌∙◌, subst, arith, append-nil, take_all, add-zero}
 use Rattle.std.proofs.Math.Seq.{take-append_seam}

@@ -59,7 +59,8 @@ place_of xs name h =
 -- ---- what is kept under a switch's name
 
 -- it is that switch's
-pub cells_at : (w : Scenario) (k : Key) (v : Cells) (s : ℕ) → AreApart w.switches → IsFrozen w k v → IsSwitch w k.switch s → v ≡ frozen_cells w s k.epoch k.index
+pub cells_at : (w : Scenario) (k : Key) (v : Cells) (s : ℕ) → AreApart w.switches → IsFrozen w k v → IsSwitch w k.switch s
+    → v ≡ frozen_cells w s k.epoch k.index
 cells_at w k v s own is here = is.same ∙ ap (λ n. frozen_cells w n k.epoch k.index) (one_switch w k.switch is.switch_at s own is.switch here)
 
 agrees_at : (w : Scenario) (m : Content) (name s e : ℕ) → AreApart w.switches → AgreesWith w m → IsSwitch w name s → Agrees (look_in m) w name s e

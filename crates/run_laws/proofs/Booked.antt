@@ -48,7 +48,8 @@ ordered es = joins.in_order [] (columns_of es) tt
 columns_more : (es : List Entry) (e : Entry) → length (columns_of (es ++ e ∷ [])) ≡ length (columns_of es) + length e.stored.columns
 columns_more es e =
     ap (λ (rs : List UploadData). length (columns_in rs)) (map-append (λ (x : Entry). x.stored) es (e ∷ []))
-    ∙ ap length (flat_map-append (λ (r : UploadData). r.columns) (records es) (e.stored ∷ []) ∙ ap (λ (cs : List Column). columns_of es ++ cs) (append-nil e.stored.columns))
+    ∙ ap length (flat_map-append (λ (r : UploadData). r.columns) (records es) (e.stored ∷ [])
+    ∙ ap (λ (cs : List Column). columns_of es ++ cs) (append-nil e.stored.columns))
     ∙ length-append (columns_of es) e.stored.columns
 
 has_it : (m : Content) (k : Key) (v : Cells) (P : Cells → Type 0) → found m k ≡ Some v → IfSome (found m k) P → P v
@@ -130,7 +131,8 @@ module _ (shape : Shape) (room pass : ℕ) (may : Key → Cells → Type 0) wher
       AllByRecursion (λ (u : UploadData). IsUpload u.columns) us →
       Comes room (with_all es (columns_in us)) (fold (with_upload shape room pass) (Ok es) us)
   comes [] es sound good each = let n = sound.each in let few = sound.few in (refl, omega (arith, n, few))
-  comes (u ∷ us) es sound good each = by (booked_by es pass u (decide shape room (records es) u)) (one es u sound here each.0) (λ new s. comes us new s parts.1 each.1)
+  comes (u ∷ us) es sound good each =
+      by (booked_by es pass u (decide shape room (records es) u)) (one es u sound here each.0) (λ new s. comes us new s parts.1 each.1)
     where
       parts : AllByRecursion (IsGood shape may) u.columns × AllByRecursion (IsGood shape may) (columns_in us)
       parts = split (IsGood shape may) u.columns (columns_in us) good
@@ -148,5 +150,6 @@ module _ (shape : Shape) (room pass : ℕ) (may : Key → Cells → Type 0) wher
           subst (Comes room (with_all es (columns_in (u ∷ us)))) (sym (after_fault f us))
           (subst (λ (m : Content). Comes room m (Err f)) whole (too_much f es u (columns_in us) h))
       by (Ok new) h rest =
-          subst (λ (m : Content). Comes room m (fold (with_upload shape room pass) (Ok new) us)) (ap (λ (m : Content). fold with_column m (columns_in us)) h.0 ∙ whole)
+          subst (λ (m : Content). Comes room m (fold (with_upload shape room pass) (Ok new) us))
+          (ap (λ (m : Content). fold with_column m (columns_in us)) h.0 ∙ whole)
           (rest new (record { knows = knows_more es new u.columns h.0 sound here; each = h.1.0; few = h.1.1 }))

@@ -93,7 +93,8 @@ all_pass (c ∷ cs) = ap (λ (xs : List Column). c ∷ xs) (all_pass cs)
 
 -- an upload makes a content longer by its new columns
 pub longer : (n : Content) (cs : List Column) → InOrder key_cmp n → IsUpload cs → length (fold with_column n cs) ≡ length n + length (new_columns n cs)
-longer n cs s is = counted n cs s (subst (λ (xs : List Column). IsDistinct same_column_key (keys_of xs)) (all_pass cs) (distinct_new (λ (c : Column). true) cs is.apart))
+longer n cs s is = counted n cs s
+    (subst (λ (xs : List Column). IsDistinct same_column_key (keys_of xs)) (all_pass cs) (distinct_new (λ (c : Column). true) cs is.apart))
 
 -- ---- a join
 
@@ -112,7 +113,8 @@ found_over m e n (c ∷ cs) h q =
 
 -- insertions of columns are the join with their content
 pub join_inserts : (m : Content) (cs : List Column) → InOrder key_cmp m → join m (content_of cs) ≡ fold with_column m cs
-join_inserts m cs s = one_map keys_total tied (join m (content_of cs)) (fold with_column m cs) (join_in_order m (content_of cs) s) (in_order m cs s) (λ q v h. sym (same q) ∙ h) (λ q v h. same q ∙ h)
+join_inserts m cs s = one_map keys_total tied (join m (content_of cs)) (fold with_column m cs) (join_in_order m (content_of cs) s) (in_order m cs s)
+    (λ q v h. sym (same q) ∙ h) (λ q v h. same q ∙ h)
   where
     same : (q : Key) → found (join m (content_of cs)) q ≡ found (fold with_column m cs) q
     same q = found-join m (content_of cs) q (in_order [] cs tt) ∙ sym (found_over m [] m cs (λ p. refl) q)

@@ -42,7 +42,8 @@ agrees w all k = agrees_all (IsFrozen w) k (brought_to_all w (picked w)) [] (λ 
 one_of : (w : Scenario) (a b : Column) → AreApart w.switches → IsFrozenColumn w a → IsFrozenColumn w b → a.key ≡ b.key → a ≡ b
 one_of w a b own this that same =
     let here : IsSwitch w b.key.switch this.is.switch_at = subst (λ (k : Key). IsSwitch w k.switch this.is.switch_at) same this.is.switch in
-    let cells = this.is.same ∙ ap (λ (k : Key). frozen_cells w this.is.switch_at k.epoch k.index) same ∙ sym (cells_at w b.key b.cells this.is.switch_at own that.is here) in
+    let cells = this.is.same ∙ ap (λ (k : Key). frozen_cells w this.is.switch_at k.epoch k.index) same
+    ∙ sym (cells_at w b.key b.cells this.is.switch_at own that.is here) in
     let dims = this.dims ∙ sym that.dims in
     λ j. record { key = same j; dims = dims j; cells = cells j }
 

@@ -1,5 +1,6 @@
 -- Counting the ends and packets of steps.
-use Rattle.std.proofs.Common.{◌≡◌, ℕ, suc, zero, ◌+◌, ◌<◌, Bool, true, false, cond, eqb, List, [], ◌∷◌, ◌++◌, length, get_or, set, replicate, refl, sym, ap, ◌∙◌, arith}
+use Rattle.std.proofs.Common.{◌≡◌, ℕ, suc, zero, ◌+◌, ◌<◌, Bool, true, false, cond, eqb, List, [], ◌∷◌, ◌++◌, length, get_or, set, replicate, refl, sym, ap}
+use Rattle.std.proofs.Common.{◌∙◌, arith}
 use Rattle.std.proofs.lemmas.List.Sums.{sum_by_push}
 use Rattle.std.proofs.lemmas.Grind.{common_steps}
 use Rattle.lg_model.specs.declared.scenario.Step.{Step}
@@ -18,9 +19,11 @@ zeros zero i = refl
 zeros (suc n) zero = refl
 zeros (suc n) (suc i) = zeros n i
 
-one_end : (ends : List ℕ) (all at i n : ℕ) (b : Bool) → eqb at i ≡ b → at < length ends → get_or ends i 0 + all ≡ n → get_or (set ends at (get_or ends at 0 + 1)) i 0 + all ≡ n + cond b 1 0
+one_end : (ends : List ℕ) (all at i n : ℕ) (b : Bool) → eqb at i ≡ b → at < length ends → get_or ends i 0 + all ≡ n
+    → get_or (set ends at (get_or ends at 0 + 1)) i 0 + all ≡ n + cond b 1 0
 one_end ends all at i n true e lt h = grind (arith, common_steps)
 one_end ends all at i n false e lt h = grind (arith, common_steps)
 
-pub end_counted : (ends : List ℕ) (all at i : ℕ) (ts now : List Step) → now ≡ ts ++ End at ∷ [] → at < length ends → get_or ends i 0 + all ≡ ends_of i ts → get_or (set ends at (get_or ends at 0 + 1)) i 0 + all ≡ ends_of i now
+pub end_counted : (ends : List ℕ) (all at i : ℕ) (ts now : List Step) → now ≡ ts ++ End at ∷ [] → at < length ends → get_or ends i 0 + all ≡ ends_of i ts
+    → get_or (set ends at (get_or ends at 0 + 1)) i 0 + all ≡ ends_of i now
 end_counted ends all at i ts now is lt h = one_end ends all at i (ends_of i ts) (eqb at i) refl lt h ∙ sym (ap (ends_of i) is ∙ ends_more i ts (End at))

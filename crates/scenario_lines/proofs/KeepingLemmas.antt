@@ -1,5 +1,6 @@
 -- What one line adds leaves parts that keep what every scenario keeps.
-use Rattle.std.proofs.Common.{◌≡◌, ℕ, suc, zero, ◌+◌, ◌<◌, ◌≤◌, List, [], ◌∷◌, ◌++◌, length, length-append, get_or, length-set, refl, ap, ◌∙◌, arith, true, false, cond, eqb, Bool, ◌⊎◌, inl, inr}
+use Rattle.std.proofs.Common.{◌≡◌, ℕ, suc, zero, ◌+◌, ◌<◌, ◌≤◌, List, [], ◌∷◌, ◌++◌, length, length-append, get_or, length-set, refl, ap, ◌∙◌, arith, true}
+use Rattle.std.proofs.Common.{false, cond, eqb, Bool, ◌⊎◌, inl, inr}
 use Rattle.std.specs.Prelude.{slice_get, Option, Some, None, All, ◌&&◌, ◌==◌, nat_lt}
 use Rattle.std.specs.List.{list_any}
 use Rattle.std.proofs.lemmas.Bool.{cases_lt}
@@ -70,7 +71,16 @@ pub shaped : (s : State) (shape : Shape) (x : Section) → IsDraft s → has_ste
 shaped s shape x ok early fits hash =
     let is = ok.scenario in
     record {
-      scenario = record { shape = fits; hash = hash; pick = is.pick; hosts = is.hosts; switches = is.switches; flows = is.flows; steps = is.steps; asks = is.asks };
+      scenario = record {
+        shape = fits;
+        hash = hash;
+        pick = is.pick;
+        hosts = is.hosts;
+        switches = is.switches;
+        flows = is.flows;
+        steps = is.steps;
+        asks = is.asks;
+      };
       no_steps = λ _. ok.no_steps early;
     }
 
@@ -79,7 +89,16 @@ pub picked : (s : State) (p : Pick) (x : Section) → IsDraft s → has_steps s.
 picked s p x ok early pick =
     let is = ok.scenario in
     record {
-      scenario = record { shape = is.shape; hash = is.hash; pick = pick; hosts = is.hosts; switches = is.switches; flows = is.flows; steps = is.steps; asks = is.asks };
+      scenario = record {
+        shape = is.shape;
+        hash = is.hash;
+        pick = pick;
+        hosts = is.hosts;
+        switches = is.switches;
+        flows = is.flows;
+        steps = is.steps;
+        asks = is.asks;
+      };
       no_steps = λ _. ok.no_steps early;
     }
 
@@ -99,13 +118,23 @@ flows_stay hosts more switches wider flows few wide ok = record {
   own = ok.own;
 }
 
-hosts_kept : (s : State) (hosts : List HostLine) → IsDraft s → length s.parts.hosts ≤ length hosts → AreHosts hosts → IsDraft (record s { parts = record s.parts { hosts = hosts } })
+hosts_kept : (s : State) (hosts : List HostLine) → IsDraft s → length s.parts.hosts ≤ length hosts → AreHosts hosts
+    → IsDraft (record s { parts = record s.parts { hosts = hosts } })
 hosts_kept s hosts ok more are =
     let is = ok.scenario in
     let n = length s.parts.switches in
     let flows = flows_stay (length s.parts.hosts) (length hosts) n n s.parts.flows more (omega arith) is.flows in
     record {
-      scenario = record { shape = is.shape; hash = is.hash; pick = is.pick; hosts = are; switches = is.switches; flows = flows; steps = is.steps; asks = is.asks };
+      scenario = record {
+        shape = is.shape;
+        hash = is.hash;
+        pick = is.pick;
+        hosts = are;
+        switches = is.switches;
+        flows = flows;
+        steps = is.steps;
+        asks = is.asks;
+      };
       no_steps = ok.no_steps;
     }
 
@@ -147,7 +176,8 @@ no_steps_yet : (m n : ℕ) (flows : List Flow) (ts : List Step) → ts ≡ [] �
 no_steps_yet m n flows ts none = rw none record { each = λ i d lt. absurd (omega (arith, lt)); few_packets = omega arith; few_ends = λ i lt. omega arith }
 
 pub switch_more : (s : State) (switches : List ℕ) (n : ℕ) → IsDraft s → has_steps s.section ≡ false → switches ≡ s.parts.switches ++ n ∷ []
-    → length s.parts.switches < 64 → n < 65536 → list_any (λ m. m == n) s.parts.switches ≡ false → IsDraft (record s { parts = record s.parts { switches = switches } })
+    → length s.parts.switches < 64 → n < 65536 → list_any (λ m. m == n) s.parts.switches ≡ false
+    → IsDraft (record s { parts = record s.parts { switches = switches } })
 switch_more s switches n ok early is few small fresh =
     let len : length switches ≡ length s.parts.switches + 1 = ap length is ∙ length-append s.parts.switches (n ∷ []) in
     let before = ok.scenario in
@@ -200,7 +230,8 @@ ask_kept switches flows now f q is ok = record {
 }
 
 pub flow_more : (s : State) (flows : List Flow) (f : Flow) (at : List ℕ) → IsDraft s → IsFlow (length s.parts.hosts) (length s.parts.switches) f
-    → flows ≡ s.parts.flows ++ f ∷ [] → length s.parts.flows < 4096 → IsIndexed (names_of flows) at → IsDraft (record s { parts = record s.parts { flows = flows } })
+    → flows ≡ s.parts.flows ++ f ∷ [] → length s.parts.flows < 4096 → IsIndexed (names_of flows) at
+    → IsDraft (record s { parts = record s.parts { flows = flows } })
 flow_more s flows f at ok fits is few table =
     let before = ok.scenario in
     record {
@@ -282,7 +313,8 @@ one_end true n lt = omega arith
 one_end false n lt = omega arith
 
 -- An end of the switch at a position, where it has room.
-pub end_fits : (s : State) (at i : ℕ) → IsDraft s → ends_of at s.parts.steps < 65535 → i < length s.parts.switches → ends_of i s.parts.steps + cond (is_end_of i (steps.End at)) 1 0 ≤ 65535
+pub end_fits : (s : State) (at i : ℕ) → IsDraft s → ends_of at s.parts.steps < 65535 → i < length s.parts.switches
+    → ends_of i s.parts.steps + cond (is_end_of i (steps.End at)) 1 0 ≤ 65535
 end_fits s at i ok room lt = by_case (is_end_of i (steps.End at)) refl where
   by_case : (b : Bool) → is_end_of i (steps.End at) ≡ b → ends_of i s.parts.steps + cond b 1 0 ≤ 65535
   by_case true e = let same : at ≡ i = grind arith in rw (← same) (omega (arith, room))

@@ -43,7 +43,8 @@ indexed_apart names at ok i j d less lt = λ e.
     let place = sym one ∙ ap (λ (n : ℕ). slice_index at n) same ∙ two in
     absurd (omega (arith, place))
 
-pub hosts_apart : (hosts : List HostLine) (h : HostLine) → AreApart (host_names hosts) → list_any (λ g. g.name == h.name) hosts ≡ false → AreApart (host_names (hosts ++ h ∷ []))
+pub hosts_apart : (hosts : List HostLine) (h : HostLine) → AreApart (host_names hosts) → list_any (λ g. g.name == h.name) hosts ≡ false
+    → AreApart (host_names (hosts ++ h ∷ []))
 hosts_apart hosts h ok fresh =
     rw (map-append (λ (g : HostLine). g.name) hosts (h ∷ []))
     (all_pairs_push (λ m n. m ≢ n) (host_names hosts) h.name ok (λ k d lt.
@@ -54,15 +55,19 @@ hosts_apart hosts h ok fresh =
 
 -- ---- letters
 
-names_set : (hosts : List HostLine) (at : ℕ) (ls : List Letter) (o : Option HostLine) → slice_get hosts at ≡ o → host_names (linked_at hosts at ls o) ≡ host_names hosts
+names_set : (hosts : List HostLine) (at : ℕ) (ls : List Letter) (o : Option HostLine) → slice_get hosts at ≡ o
+    → host_names (linked_at hosts at ls o) ≡ host_names hosts
 names_set hosts at ls None is = refl
-names_set hosts at ls (Some h) is = map-set_same (λ (g : HostLine). g.name) hosts at (record h { letters = ls }) h (ap (λ (g : HostLine). g.name) (sym (get_or_from_slice_get hosts at h h is)))
+names_set hosts at ls (Some h) is =
+    map-set_same (λ (g : HostLine). g.name) hosts at (record h { letters = ls }) h
+    (ap (λ (g : HostLine). g.name) (sym (get_or_from_slice_get hosts at h h is)))
 
 -- Letters leave the names.
 pub names_linked : (hosts : List HostLine) (at : ℕ) (ls : List Letter) → host_names (linked hosts at ls) ≡ host_names hosts
 names_linked hosts at ls = names_set hosts at ls (slice_get hosts at) refl
 
-pub hosts_set : (hosts : List HostLine) (at : ℕ) (ls : List Letter) (o : Option HostLine) → slice_get hosts at ≡ o → All IsHost hosts → length ls ≤ 4096 → All IsHost (linked_at hosts at ls o)
+pub hosts_set : (hosts : List HostLine) (at : ℕ) (ls : List Letter) (o : Option HostLine) → slice_get hosts at ≡ o → All IsHost hosts → length ls ≤ 4096
+    → All IsHost (linked_at hosts at ls o)
 hosts_set hosts at ls None is ok few = ok
 hosts_set hosts at ls (Some h) is ok few =
     let line : IsHost h = rw (get_or_from_slice_get hosts at h h is) at (ok at h (slice_get_within hosts at h is)) in

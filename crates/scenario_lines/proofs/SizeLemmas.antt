@@ -14,5 +14,7 @@ pub size_push : (ds : List ℕ) (d : ℕ) → size (map decimal (ds ++ d ∷ [])
 size_push ds d = ap size (map-append decimal ds (d ∷ [])) ∙ size_append (map decimal ds) (decimal d ∷ []) ∙ omega arith
 
 -- One hop more.
-pub hop_more : (switches hops : List ℕ) (at : ℕ) → size (path_words switches (hops ++ at ∷ [])) ≡ size (path_words switches hops) + (length (decimal (slice_index switches at)) + 1)
-hop_more switches hops at = ap size (map-append (λ i. decimal (slice_index switches i)) hops (at ∷ [])) ∙ size_append (path_words switches hops) (decimal (slice_index switches at) ∷ []) ∙ omega arith
+pub hop_more : (switches hops : List ℕ) (at : ℕ)
+    → size (path_words switches (hops ++ at ∷ [])) ≡ size (path_words switches hops) + (length (decimal (slice_index switches at)) + 1)
+hop_more switches hops at = ap size (map-append (λ i. decimal (slice_index switches i)) hops (at ∷ []))
+    ∙ size_append (path_words switches hops) (decimal (slice_index switches at) ∷ []) ∙ omega arith

@@ -25,7 +25,8 @@ use Rattle.scenario_lines.specs.declared.section.Keyword.{Keyword}
 use Rattle.scenario_lines.specs.declared.section.Keyword.TheVariants as words
 use Rattle.scenario_lines.specs.Sections.{admits, is_first}
 use Rattle.text_out.specs.Words.{Words}
-use Rattle.scenario_lines.specs.Spelling.{size, shape_line_words, pick_line_words, key_parts, host_words, switch_words, path_words, flow_words, byte_of, step_words, ask_words}
+use Rattle.scenario_lines.specs.Spelling.{size, shape_line_words, pick_line_words, key_parts, host_words, switch_words, path_words, flow_words, byte_of}
+use Rattle.scenario_lines.specs.Spelling.{step_words, ask_words}
 use Rattle.scenario_lines.specs.Line.{linked, linked_at, no_letters, unlinked}
 use Rattle.scenario_lines.specs.Draft.{State, IsDraft}
 use Rattle.scenario_lines.specs.PrintedLen.{frame_size, link_size, printed_len, keyword_size, first_size}
@@ -37,9 +38,11 @@ size_onto : (b : ℕ) (ws : Words) → 0 < length ws → size (onto_first b ws) 
 size_onto b [] some = absurd (omega arith)
 size_onto b (w ∷ ws) some = omega arith
 
-split_size : (p : ℕ → Bool) (b : ℕ) (bs : List ℕ) (yes : Bool) → p b ≡ yes → size (slice_split p bs) ≡ length bs + 1 → size (slice_split p (b ∷ bs)) ≡ suc (length bs) + 1
+split_size : (p : ℕ → Bool) (b : ℕ) (bs : List ℕ) (yes : Bool) → p b ≡ yes → size (slice_split p bs) ≡ length bs + 1
+    → size (slice_split p (b ∷ bs)) ≡ suc (length bs) + 1
 split_size p b bs true is rest = omega (arith, ap size (slice_split-cons_yes p b bs is), rest)
-split_size p b bs false is rest = omega (arith, ap size (slice_split-cons_no p b bs is), size_onto b (slice_split p bs) (omega (arith, length-slice_split p bs)), rest)
+split_size p b bs false is rest =
+    omega (arith, ap size (slice_split-cons_no p b bs is), size_onto b (slice_split p bs) (omega (arith, length-slice_split p bs)), rest)
 
 -- The words of a text take its bytes, and one more where the last one ends.
 pub words_size : (p : ℕ → Bool) (text : List ℕ) → size (slice_split p text) ≡ length text + 1
@@ -55,7 +58,8 @@ first_most (Some k) first taken = omega (arith, taken)
 
 pub sum_same : {X : Type 0} (f g : X → ℕ) (xs : List X) → All (λ x. f x ≡ g x) xs → sum_by f xs ≡ sum_by g xs
 sum_same f g [] same = refl
-sum_same f g (x ∷ xs) same = omega (arith, sum_by-cons f x xs, sum_by-cons g x xs, All-head (λ y. f y ≡ g y) x xs same, sum_same f g xs (All-tail (λ y. f y ≡ g y) x xs same))
+sum_same f g (x ∷ xs) same =
+    omega (arith, sum_by-cons f x xs, sum_by-cons g x xs, All-head (λ y. f y ≡ g y) x xs same, sum_same f g xs (All-tail (λ y. f y ≡ g y) x xs same))
 
 map_same : {X Y : Type 0} (f g : X → Y) (xs : List X) → All (λ x. f x ≡ g x) xs → map f xs ≡ map g xs
 map_same f g [] same = refl
@@ -66,45 +70,57 @@ sum_more f now xs x is = ap (sum_by f) is ∙ sum_by_push f xs x
 
 -- ---- names that stand still
 
-name_kept : {X : Type 0} (name : X → ℕ) (now xs : List X) (x : X) (at : ℕ) → now ≡ xs ++ x ∷ [] → at < length xs → slice_index (map name now) at ≡ slice_index (map name xs) at
+name_kept : {X : Type 0} (name : X → ℕ) (now xs : List X) (x : X) (at : ℕ) → now ≡ xs ++ x ∷ [] → at < length xs
+    → slice_index (map name now) at ≡ slice_index (map name xs) at
 name_kept name now xs x at is lt =
-    ap (λ (ys : List _). slice_index (map name ys) at) is ∙ ap (λ (ns : List ℕ). slice_index ns at) (map-append name xs (x ∷ [])) ∙ get_or_append_left (map name xs) (map name (x ∷ [])) 0 at (omega (arith, length-map xs name))
+    ap (λ (ys : List _). slice_index (map name ys) at) is ∙ ap (λ (ns : List ℕ). slice_index ns at) (map-append name xs (x ∷ []))
+    ∙ get_or_append_left (map name xs) (map name (x ∷ [])) 0 at (omega (arith, length-map xs name))
 
 number_kept : (now ns : List ℕ) (n at : ℕ) → now ≡ ns ++ n ∷ [] → at < length ns → slice_index now at ≡ slice_index ns at
 number_kept now ns n at is lt = ap (λ (ms : List ℕ). slice_index ms at) is ∙ get_or_append_left ns (n ∷ []) 0 at lt
 
-flows_by_host : (now hosts : List HostLine) (h : HostLine) (switches : List ℕ) (flows : List Flow) → now ≡ hosts ++ h ∷ [] → All (IsFlow (length hosts) (length switches)) flows
+flows_by_host : (now hosts : List HostLine) (h : HostLine) (switches : List ℕ) (flows : List Flow) → now ≡ hosts ++ h ∷ []
+    → All (IsFlow (length hosts) (length switches)) flows
     → sum_by (λ f. size (flow_words now switches f)) flows ≡ sum_by (λ f. size (flow_words hosts switches f)) flows
 flows_by_host now hosts h switches flows is ok = sum_same (λ f. size (flow_words now switches f)) (λ f. size (flow_words hosts switches f)) flows (λ k d lt.
     let f = get_or flows k d in
     let fit = ok k d lt in
-    ap (λ (n : ℕ). size (codes "flow" ∷ decimal f.name ∷ key_parts f.key (codes "host" ∷ decimal n ∷ codes "path" ∷ path_words switches f.path))) (name_kept (λ (g : HostLine). g.name) now hosts h f.host_at is fit.host))
+    ap (λ (n : ℕ). size (codes "flow" ∷ decimal f.name ∷ key_parts f.key (codes "host" ∷ decimal n ∷ codes "path" ∷ path_words switches f.path)))
+    (name_kept (λ (g : HostLine). g.name) now hosts h f.host_at is fit.host))
 
-flows_by_switch : (hosts : List HostLine) (now switches : List ℕ) (n : ℕ) (flows : List Flow) → now ≡ switches ++ n ∷ [] → All (IsFlow (length hosts) (length switches)) flows
+flows_by_switch : (hosts : List HostLine) (now switches : List ℕ) (n : ℕ) (flows : List Flow) → now ≡ switches ++ n ∷ []
+    → All (IsFlow (length hosts) (length switches)) flows
     → sum_by (λ f. size (flow_words hosts now f)) flows ≡ sum_by (λ f. size (flow_words hosts switches f)) flows
 flows_by_switch hosts now switches n flows is ok = sum_same (λ f. size (flow_words hosts now f)) (λ f. size (flow_words hosts switches f)) flows (λ k d lt.
     let f = get_or flows k d in
     let fit = ok k d lt in
-    ap (λ (ws : Words). size (codes "flow" ∷ decimal f.name ∷ key_parts f.key (codes "host" ∷ decimal (slice_index (host_names hosts) f.host_at) ∷ codes "path" ∷ ws)))
-    (map_same (λ at. decimal (slice_index now at)) (λ at. decimal (slice_index switches at)) f.path (λ j e l. ap decimal (number_kept now switches n (get_or f.path j e) is (fit.path j e l)))))
+    ap (λ (ws : Words). size
+    (codes "flow" ∷ decimal f.name ∷ key_parts f.key (codes "host" ∷ decimal (slice_index (host_names hosts) f.host_at) ∷ codes "path" ∷ ws)))
+    (map_same (λ at. decimal (slice_index now at)) (λ at. decimal (slice_index switches at)) f.path
+    (λ j e l. ap decimal (number_kept now switches n (get_or f.path j e) is (fit.path j e l)))))
 
-step_by_switch : (flows : List Flow) (now switches : List ℕ) (n : ℕ) (t : Step) → now ≡ switches ++ n ∷ [] → IsStep (length switches) flows t → size (step_words flows now t) ≡ size (step_words flows switches t)
+step_by_switch : (flows : List Flow) (now switches : List ℕ) (n : ℕ) (t : Step) → now ≡ switches ++ n ∷ [] → IsStep (length switches) flows t
+    → size (step_words flows now t) ≡ size (step_words flows switches t)
 step_by_switch flows now switches n (steps.Packet at bytes delays burst x) is ok = refl
 step_by_switch flows now switches n (steps.End at) is ok = ap (λ (m : ℕ). size (codes "end" ∷ decimal m ∷ [])) (number_kept now switches n at is ok)
 step_by_switch flows now switches n steps.EndAll is ok = refl
 step_by_switch flows now switches n steps.Release is ok = refl
 
-step_by_flow : (now flows : List Flow) (f : Flow) (switches : List ℕ) (t : Step) → now ≡ flows ++ f ∷ [] → IsStep (length switches) flows t → size (step_words now switches t) ≡ size (step_words flows switches t)
+step_by_flow : (now flows : List Flow) (f : Flow) (switches : List ℕ) (t : Step) → now ≡ flows ++ f ∷ [] → IsStep (length switches) flows t
+    → size (step_words now switches t) ≡ size (step_words flows switches t)
 step_by_flow now flows f switches (steps.Packet at bytes delays burst x) is ok =
-    ap (λ (n : ℕ). size (step_words (record { name = n; key = no_flow.key; host_at = 0; path = [] } ∷ []) switches (steps.Packet 0 bytes delays burst x))) (name_kept (λ (g : Flow). g.name) now flows f at is ok.flow)
+    ap (λ (n : ℕ). size (step_words (record { name = n; key = no_flow.key; host_at = 0; path = [] } ∷ []) switches (steps.Packet 0 bytes delays burst x)))
+    (name_kept (λ (g : Flow). g.name) now flows f at is ok.flow)
 step_by_flow now flows f switches (steps.End at) is ok = refl
 step_by_flow now flows f switches steps.EndAll is ok = refl
 step_by_flow now flows f switches steps.Release is ok = refl
 
-asks_by_flow : (switches : List ℕ) (now flows : List Flow) (f : Flow) (asks : List Ask) → now ≡ flows ++ f ∷ [] → All (IsAsk switches flows) asks → sum_by (λ q. size (ask_words now q)) asks ≡ sum_by (λ q. size (ask_words flows q)) asks
+asks_by_flow : (switches : List ℕ) (now flows : List Flow) (f : Flow) (asks : List Ask) → now ≡ flows ++ f ∷ [] → All (IsAsk switches flows) asks
+    → sum_by (λ q. size (ask_words now q)) asks ≡ sum_by (λ q. size (ask_words flows q)) asks
 asks_by_flow switches now flows f asks is ok = sum_same (λ q. size (ask_words now q)) (λ q. size (ask_words flows q)) asks (λ k d lt.
     let q = get_or asks k d in
-    ap (λ (n : ℕ). size (codes "ask" ∷ decimal n ∷ decimal q.switch ∷ decimal q.epoch ∷ [])) (name_kept (λ (g : Flow). g.name) now flows f q.flow_at is (ok k d lt).flow))
+    ap (λ (n : ℕ). size (codes "ask" ∷ decimal n ∷ decimal q.switch ∷ decimal q.epoch ∷ []))
+    (name_kept (λ (g : Flow). g.name) now flows f q.flow_at is (ok k d lt).flow))
 
 -- ---- the first lines and the last
 
@@ -128,7 +144,8 @@ frame_second Declarations shape pick is = absurd cc
 frame_second Steps shape pick is = absurd cc
 frame_second Done shape pick is = absurd cc
 
-pub shape_weighs : (s : State) (shape : Shape) → admits s.section words.Shape ≡ true → printed_len (record s { section = sections.Pick; parts = record s.parts { shape = shape } }) ≡ printed_len s + size (shape_line_words shape)
+pub shape_weighs : (s : State) (shape : Shape) → admits s.section words.Shape ≡ true
+    → printed_len (record s { section = sections.Pick; parts = record s.parts { shape = shape } }) ≡ printed_len s + size (shape_line_words shape)
 unfolding printed_len
 shape_weighs s shape is = omega (arith, frame_second s.section s.parts.shape s.parts.pick is)
 
@@ -140,7 +157,8 @@ frame_third Declarations shape pick is = absurd cc
 frame_third Steps shape pick is = absurd cc
 frame_third Done shape pick is = absurd cc
 
-pub pick_weighs : (s : State) (pick : Pick) → admits s.section words.Pick ≡ true → printed_len (record s { section = Declarations; parts = record s.parts { pick = pick } }) ≡ printed_len s + size (pick_line_words pick)
+pub pick_weighs : (s : State) (pick : Pick) → admits s.section words.Pick ≡ true
+    → printed_len (record s { section = Declarations; parts = record s.parts { pick = pick } }) ≡ printed_len s + size (pick_line_words pick)
 unfolding printed_len
 pick_weighs s pick is = omega (arith, frame_third s.section s.parts.shape s.parts.pick is)
 
@@ -194,53 +212,73 @@ done_weighs s is = omega (arith, open_done s.section is s.parts.shape s.parts.pi
 
 -- ---- declarations
 
-pub host_weighs : (s : State) (hosts : List HostLine) (h : HostLine) → IsDraft s → hosts ≡ s.parts.hosts ++ h ∷ [] → length h.letters ≡ 0 → printed_len (record s { parts = record s.parts { hosts = hosts } }) ≡ printed_len s + size (host_words h)
+pub host_weighs : (s : State) (hosts : List HostLine) (h : HostLine) → IsDraft s → hosts ≡ s.parts.hosts ++ h ∷ [] → length h.letters ≡ 0
+    → printed_len (record s { parts = record s.parts { hosts = hosts } }) ≡ printed_len s + size (host_words h)
 unfolding printed_len
 host_weighs s hosts h ok is none =
     let link : link_size h ≡ 0 = rw none refl in
-    omega (arith, sum_more (λ g. size (host_words g)) hosts s.parts.hosts h is, sum_more link_size hosts s.parts.hosts h is, flows_by_host hosts s.parts.hosts h s.parts.switches s.parts.flows is ok.scenario.flows.each, link)
+    omega (
+      arith,
+      sum_more (λ g. size (host_words g)) hosts s.parts.hosts h is,
+      sum_more link_size hosts s.parts.hosts h is,
+      flows_by_host hosts s.parts.hosts h s.parts.switches s.parts.flows is ok.scenario.flows.each,
+      link,
+    )
 
-pub switch_weighs : (s : State) (switches : List ℕ) (n : ℕ) → IsDraft s → switches ≡ s.parts.switches ++ n ∷ [] → printed_len (record s { parts = record s.parts { switches = switches } }) ≡ printed_len s + size (switch_words n)
+pub switch_weighs : (s : State) (switches : List ℕ) (n : ℕ) → IsDraft s → switches ≡ s.parts.switches ++ n ∷ []
+    → printed_len (record s { parts = record s.parts { switches = switches } }) ≡ printed_len s + size (switch_words n)
 unfolding printed_len
 switch_weighs s switches n ok is =
     omega (
       arith,
       sum_more (λ m. size (switch_words m)) switches s.parts.switches n is,
       flows_by_switch s.parts.hosts switches s.parts.switches n s.parts.flows is ok.scenario.flows.each,
-      sum_same (λ t. size (step_words s.parts.flows switches t)) (λ t. size (step_words s.parts.flows s.parts.switches t)) s.parts.steps (λ k d lt. step_by_switch s.parts.flows switches s.parts.switches n (get_or s.parts.steps k d) is (ok.scenario.steps.each k d lt)),
+      sum_same (λ t. size (step_words s.parts.flows switches t)) (λ t. size (step_words s.parts.flows s.parts.switches t)) s.parts.steps
+          (λ k d lt. step_by_switch s.parts.flows switches s.parts.switches n (get_or s.parts.steps k d) is (ok.scenario.steps.each k d lt)),
     )
 
-pub flow_weighs : (s : State) (flows : List Flow) (f : Flow) → IsDraft s → flows ≡ s.parts.flows ++ f ∷ [] → printed_len (record s { parts = record s.parts { flows = flows } }) ≡ printed_len s + size (flow_words s.parts.hosts s.parts.switches f)
+pub flow_weighs : (s : State) (flows : List Flow) (f : Flow) → IsDraft s → flows ≡ s.parts.flows ++ f ∷ []
+    → printed_len (record s { parts = record s.parts { flows = flows } }) ≡ printed_len s + size (flow_words s.parts.hosts s.parts.switches f)
 unfolding printed_len
 flow_weighs s flows f ok is =
     omega (
       arith,
       sum_more (λ g. size (flow_words s.parts.hosts s.parts.switches g)) flows s.parts.flows f is,
       asks_by_flow s.parts.switches flows s.parts.flows f s.parts.asks is ok.scenario.asks.each,
-      sum_same (λ t. size (step_words flows s.parts.switches t)) (λ t. size (step_words s.parts.flows s.parts.switches t)) s.parts.steps (λ k d lt. step_by_flow flows s.parts.flows f s.parts.switches (get_or s.parts.steps k d) is (ok.scenario.steps.each k d lt)),
+      sum_same (λ t. size (step_words flows s.parts.switches t)) (λ t. size (step_words s.parts.flows s.parts.switches t)) s.parts.steps
+          (λ k d lt. step_by_flow flows s.parts.flows f s.parts.switches (get_or s.parts.steps k d) is (ok.scenario.steps.each k d lt)),
     )
 
 -- ---- steps and asks
 
-pub step_weighs : (s : State) (ts : List Step) (t : Step) → IsOpen s.section → ts ≡ s.parts.steps ++ t ∷ [] → printed_len (record s { section = Steps; parts = record s.parts { steps = ts } }) ≡ printed_len s + size (step_words s.parts.flows s.parts.switches t)
+pub step_weighs : (s : State) (ts : List Step) (t : Step) → IsOpen s.section → ts ≡ s.parts.steps ++ t ∷ []
+    → printed_len (record s { section = Steps; parts = record s.parts { steps = ts } }) ≡ printed_len s + size (step_words s.parts.flows s.parts.switches t)
 unfolding printed_len
-step_weighs s ts t free is = omega (arith, free s.parts.shape s.parts.pick, sum_more (λ u. size (step_words s.parts.flows s.parts.switches u)) ts s.parts.steps t is)
+step_weighs s ts t free is =
+    omega (arith, free s.parts.shape s.parts.pick, sum_more (λ u. size (step_words s.parts.flows s.parts.switches u)) ts s.parts.steps t is)
 
-pub ask_weighs : (s : State) (asks : List Ask) (q : Ask) → admits s.section words.Ask ≡ true → asks ≡ s.parts.asks ++ q ∷ [] → printed_len (record s { section = Steps; parts = record s.parts { asks = asks } }) ≡ printed_len s + size (ask_words s.parts.flows q)
+pub ask_weighs : (s : State) (asks : List Ask) (q : Ask) → admits s.section words.Ask ≡ true → asks ≡ s.parts.asks ++ q ∷ []
+    → printed_len (record s { section = Steps; parts = record s.parts { asks = asks } }) ≡ printed_len s + size (ask_words s.parts.flows q)
 unfolding printed_len
-ask_weighs s asks q free is = omega (arith, open_ask s.section free s.parts.shape s.parts.pick, sum_more (λ r. size (ask_words s.parts.flows r)) asks s.parts.asks q is)
+ask_weighs s asks q free is =
+    omega (arith, open_ask s.section free s.parts.shape s.parts.pick, sum_more (λ r. size (ask_words s.parts.flows r)) asks s.parts.asks q is)
 
 -- ---- letters
 
-linked_sum : (f : HostLine → ℕ) (hosts : List HostLine) (at : ℕ) (ls : List Letter) (h : HostLine) → slice_get hosts at ≡ Some h → sum_by f (linked_at hosts at ls (Some h)) + f h ≡ sum_by f hosts + f (record h { letters = ls })
+linked_sum : (f : HostLine → ℕ) (hosts : List HostLine) (at : ℕ) (ls : List Letter) (h : HostLine) → slice_get hosts at ≡ Some h
+    → sum_by f (linked_at hosts at ls (Some h)) + f h ≡ sum_by f hosts + f (record h { letters = ls })
 linked_sum f hosts at ls h is =
     let here : get_or hosts at h ≡ h = get_or_from_slice_get hosts at h h is in
-    let sum : sum_by f (set hosts at (record h { letters = ls })) + f (get_or hosts at h) ≡ sum_by f hosts + f (record h { letters = ls }) = sum_by-set f hosts at (record h { letters = ls }) h (slice_get_within hosts at h is) in
+    let sum : sum_by f (set hosts at (record h { letters = ls })) + f (get_or hosts at h) ≡ sum_by f hosts + f (record h { letters = ls }) =
+    sum_by-set f hosts at (record h { letters = ls }) h (slice_get_within hosts at h is) in
     rw here at sum
 
-flows_linked : (now hosts : List HostLine) (switches : List ℕ) (flows : List Flow) → host_names now ≡ host_names hosts → sum_by (λ f. size (flow_words now switches f)) flows ≡ sum_by (λ f. size (flow_words hosts switches f)) flows
+flows_linked : (now hosts : List HostLine) (switches : List ℕ) (flows : List Flow) → host_names now ≡ host_names hosts
+    → sum_by (λ f. size (flow_words now switches f)) flows ≡ sum_by (λ f. size (flow_words hosts switches f)) flows
 flows_linked now hosts switches flows is =
-    ap (λ (names : List ℕ). sum_by (λ f. size (codes "flow" ∷ decimal f.name ∷ key_parts f.key (codes "host" ∷ decimal (slice_index names f.host_at) ∷ codes "path" ∷ path_words switches f.path))) flows) is
+    ap (λ (names : List ℕ). sum_by
+    (λ f. size (codes "flow" ∷ decimal f.name ∷ key_parts f.key
+    (codes "host" ∷ decimal (slice_index names f.host_at) ∷ codes "path" ∷ path_words switches f.path))) flows) is
 
 -- The two sums over the hosts, and the bytes of a line of letters.
 pub record Linked (hosts now : List HostLine) (name count : ℕ) : Type 0 where
@@ -255,18 +293,28 @@ no_link : (h : HostLine) (b : Bool) → eqb (length h.letters) 0 ≡ b → no_le
 no_link h true is free = rw is refl
 no_link h false is free = absurd (let e = rw is at free in cc)
 
-link_sums : (hosts : List HostLine) (at : ℕ) (ls : List Letter) (o : Option HostLine) → slice_get hosts at ≡ o → no_letters o ≡ Ok tt → Linked hosts (linked_at hosts at ls o) (slice_index (host_names hosts) at) (length ls)
+link_sums : (hosts : List HostLine) (at : ℕ) (ls : List Letter) (o : Option HostLine) → slice_get hosts at ≡ o → no_letters o ≡ Ok tt
+    → Linked hosts (linked_at hosts at ls o) (slice_index (host_names hosts) at) (length ls)
 link_sums hosts at ls None is free = absurd cc
 link_sums hosts at ls (Some h) is free =
     let lt : at < length hosts = slice_get_within hosts at h is in
-    let name : slice_index (host_names hosts) at ≡ h.name = get_or-map (λ (g : HostLine). g.name) hosts at h 0 lt ∙ ap (λ (g : HostLine). g.name) (get_or_from_slice_get hosts at h h is) in
+    let name : slice_index (host_names hosts) at ≡ h.name = get_or-map (λ (g : HostLine). g.name) hosts at h 0 lt
+    ∙ ap (λ (g : HostLine). g.name) (get_or_from_slice_get hosts at h h is) in
     rw name record {
       names = omega (arith, linked_sum (λ g. size (host_words g)) hosts at ls h is);
-      links = omega (arith, linked_sum link_size hosts at ls h is, no_link h (eqb (length h.letters) 0) refl free, link_most (record h { letters = ls }) (eqb (length ls) 0) refl);
+      links = omega (
+        arith,
+        linked_sum link_size hosts at ls h is,
+        no_link h (eqb (length h.letters) 0) refl free,
+        link_most (record h { letters = ls }) (eqb (length ls) 0) refl,
+      );
     }
 
-pub link_weighs : (s : State) (hosts : List HostLine) (at : ℕ) (ls : List Letter) → hosts ≡ linked s.parts.hosts at ls → unlinked s.parts.hosts at ≡ Ok tt → printed_len (record s { parts = record s.parts { hosts = hosts } }) ≤ printed_len s + (6 + length (decimal (slice_index (host_names s.parts.hosts) at)) + (length ls + 1))
+pub link_weighs : (s : State) (hosts : List HostLine) (at : ℕ) (ls : List Letter) → hosts ≡ linked s.parts.hosts at ls → unlinked s.parts.hosts at ≡ Ok tt
+    → printed_len (record s { parts = record s.parts { hosts = hosts } }) ≤ printed_len s +
+    (6 + length (decimal (slice_index (host_names s.parts.hosts) at)) + (length ls + 1))
 unfolding printed_len unlinked
 link_weighs s hosts at ls is free =
-    let sums : Linked s.parts.hosts hosts (slice_index (host_names s.parts.hosts) at) (length ls) = rw is (link_sums s.parts.hosts at ls (slice_get s.parts.hosts at) refl free) in
+    let sums : Linked s.parts.hosts hosts (slice_index (host_names s.parts.hosts) at) (length ls) =
+    rw is (link_sums s.parts.hosts at ls (slice_get s.parts.hosts at) refl free) in
     omega (arith, sums.names, sums.links, flows_linked hosts s.parts.hosts s.parts.switches s.parts.flows (ap host_names is ∙ names_linked s.parts.hosts at ls))

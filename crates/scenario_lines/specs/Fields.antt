@@ -1,5 +1,6 @@
 -- The fields of a line: what the words from a position on say, and the words after them, or why they say nothing.
-use Rattle.std.specs.Prelude.{◌≡◌, ℕ, Bool, true, List, [], ◌∷◌, ◌++◌, length, Option, Some, None, Result, Ok, Err, codes, nat_le, nat_lt, ◌==◌, ◌&&◌, ◌||◌, suc, zero, map, if◌then◌else◌}
+use Rattle.std.specs.Prelude.{◌≡◌, ℕ, Bool, true, List, [], ◌∷◌, ◌++◌, length, Option, Some, None, Result, Ok, Err, codes, nat_le, nat_lt, ◌==◌, ◌&&◌, ◌||◌}
+use Rattle.std.specs.Prelude.{suc, zero, map, if◌then◌else◌}
 use Rattle.std.specs.List.{list_any, list_all, position}
 use Rattle.std.specs.Str.{bytes_eq}
 use Rattle.flow_key.specs.declared.key.FlowKey.{FlowKey}

@@ -1,5 +1,6 @@
 -- What each line means: the words that it has, from left to right, and the state after it, or the first why.
-use Rattle.std.specs.Prelude.{ℕ, Bool, true, List, [], ◌∷◌, ◌++◌, length, Option, Some, None, Result, Ok, Err, codes, ◌==◌, ◌+◌, if◌then◌else◌, slice_get, slice_set}
+use Rattle.std.specs.Prelude.{ℕ, Bool, true, List, [], ◌∷◌, ◌++◌, length, Option, Some, None, Result, Ok, Err, codes, ◌==◌, ◌+◌, if◌then◌else◌, slice_get}
+use Rattle.std.specs.Prelude.{slice_set}
 use Rattle.std.specs.Str.{bytes_eq}
 use Rattle.flow_key.specs.Words.{words_at}
 use Rattle.lg_model.specs.declared.limits.TheConstants.{MOST_ROWS, MOST_WIDTH, MOST_HOSTS, MOST_SWITCHES, MOST_FLOWS, MOST_PACKETS, MOST_ENDS, MOST_ASKS}
@@ -17,7 +18,8 @@ use Rattle.scenario_lines.specs.Sections.{is_first, keyword_of, admits}
 use Rattle.lg_model.specs.Keeping.{names_of, ends_of}
 use Rattle.text_out.specs.Words.{Words}
 use Rattle.scenario_lines.specs.Draft.{State}
-use Rattle.scenario_lines.specs.Fields.{◌>>=◌, number, word, no_more, fresh_name, known_name, position_of, fresh_host, host_position, fresh_flow, room, room_to, room_for_all, key, path, hash, pick, letters_word, delays, burst, fate}
+use Rattle.scenario_lines.specs.Fields.{◌>>=◌, number, word, no_more, fresh_name, known_name, position_of, fresh_host, host_position, fresh_flow, room}
+use Rattle.scenario_lines.specs.Fields.{room_to, room_for_all, key, path, hash, pick, letters_word, delays, burst, fate}
 
 -- ---- the second and the third line
 

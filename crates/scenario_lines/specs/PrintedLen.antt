@@ -11,7 +11,8 @@ use Rattle.scenario_lines.specs.declared.section.Section.TheVariants as sections
 use Rattle.scenario_lines.specs.declared.section.Section.TheVariants.{Declarations, Steps, Done}
 use Rattle.scenario_lines.specs.declared.section.Keyword.{Keyword}
 use Rattle.scenario_lines.specs.declared.section.Keyword.TheVariants as words
-use Rattle.scenario_lines.specs.Spelling.{size, guardian_words, shape_line_words, pick_line_words, host_words, switch_words, flow_words, link_words, step_words, ask_words, done_words}
+use Rattle.scenario_lines.specs.Spelling.{size, guardian_words, shape_line_words, pick_line_words, host_words, switch_words, flow_words, link_words}
+use Rattle.scenario_lines.specs.Spelling.{step_words, ask_words, done_words}
 use Rattle.scenario_lines.specs.Draft.{State}
 
 -- The bytes of the first three lines, as far as they have come, and of the last line.
@@ -29,7 +30,9 @@ link_size h = if length h.letters == 0 then 0 else size (link_words h)
 
 -- The bytes of the declarations.
 abbrev pub declared_size : List HostLine → List ℕ → List Flow → ℕ
-declared_size hosts switches flows = sum_by (λ h. size (host_words h)) hosts + (sum_by (λ n. size (switch_words n)) switches + (sum_by (λ f. size (flow_words hosts switches f)) flows + sum_by link_size hosts))
+declared_size hosts switches flows =
+    sum_by (λ h. size (host_words h)) hosts +
+    (sum_by (λ n. size (switch_words n)) switches + (sum_by (λ f. size (flow_words hosts switches f)) flows + sum_by link_size hosts))
 
 -- The bytes of the steps and the asks.
 abbrev pub happening_size : List ℕ → List Flow → List Step → List Ask → ℕ

@@ -76,7 +76,9 @@ path_words switches path = map (λ at. decimal (slice_index switches at)) path
 
 -- The words of the line of a flow, which names its host and its switches.
 abbrev pub flow_words : List HostLine → List ℕ → Flow → Words
-flow_words hosts switches f = codes "flow" ∷ decimal f.name ∷ key_parts f.key (codes "host" ∷ decimal (slice_index (host_names hosts) f.host_at) ∷ codes "path" ∷ path_words switches f.path)
+flow_words hosts switches f =
+    codes "flow" ∷ decimal f.name ∷ key_parts f.key
+    (codes "host" ∷ decimal (slice_index (host_names hosts) f.host_at) ∷ codes "path" ∷ path_words switches f.path)
 
 -- The byte of a letter.
 abbrev pub byte_of : Letter → ℕ

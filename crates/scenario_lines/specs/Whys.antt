@@ -1,7 +1,8 @@
 -- The texts of the whys.
 use Rattle.std.specs.Prelude.{ℕ, List, codes}
 use Rattle.scenario_lines.specs.declared.why.Why.{Why}
-use Rattle.scenario_lines.specs.declared.why.Why.TheVariants.{Version, OutOfPlace, UnknownWord, WordCount, BadNumber, BadKey, Repeated, UnknownName, BadPath, BadWord, BadLetters, TooMany, NoDone, TooLong}
+use Rattle.scenario_lines.specs.declared.why.Why.TheVariants.{Version, OutOfPlace, UnknownWord, WordCount, BadNumber, BadKey, Repeated, UnknownName}
+use Rattle.scenario_lines.specs.declared.why.Why.TheVariants.{BadPath, BadWord, BadLetters, TooMany, NoDone, TooLong}
 
 -- The text of a why, as fault lines print it.
 abbrev pub why_text : Why → List ℕ

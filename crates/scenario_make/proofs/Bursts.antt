@@ -13,7 +13,8 @@ use Rattle.lg_model.specs.Keeping.{IsStep, names_of}
 use Rattle.lg_model.specs.Scenario.{flow_at, reached}
 use Rattle.scenario_lines.specs.Spelling.{size, burst_words, fate_words, step_words}
 use Rattle.scenario_lines.proofs.SizeLemmas.{size_append}
-use Rattle.scenario_make.specs.Generator.{generated_switches, flow_names, generated_flows, burst_number, size_of, delay_of, fate_of, generated_burst, generated_end, generated_round, last_burst, generated_rounds, generated_steps}
+use Rattle.scenario_make.specs.Generator.{generated_switches, flow_names, generated_flows, burst_number, size_of, delay_of, fate_of, generated_burst}
+use Rattle.scenario_make.specs.Generator.{generated_end, generated_round, last_burst, generated_rounds, generated_steps}
 use Rattle.scenario_make.proofs.Lists.{of_each_flow, of_all_pieces}
 
 -- A step of a generated scenario: it fits what is declared, can be read again, and its line has at most 1,000 bytes.

@@ -11,7 +11,8 @@ use Rattle.scenario_parts.specs.Printed.{text_of}
 use Rattle.scenario_text.specs.Text.{reading}
 use Rattle.scenario_text.specs.New.{parts_of, IsUnsaid}
 use Rattle.scenario_text.proofs.InRangeLemmas.{whole_in_range}
-use Rattle.scenario_make.specs.Generator.{generated, generated_shape, generated_hosts, generated_switches, generated_flows, generated_steps, generated_asks, IsGenerated}
+use Rattle.scenario_make.specs.Generator.{generated, generated_shape, generated_hosts, generated_switches, generated_flows, generated_steps, generated_asks}
+use Rattle.scenario_make.specs.Generator.{IsGenerated}
 
 module _ (n : ℕ) (shape : Shape) (hosts : List HostLine) (switches : List ℕ) (flows : List Flow) (steps : List Step) (asks : List Ask)
     (shape_is : shape ≡ generated_shape n) (hosts_is : hosts ≡ generated_hosts) (switches_is : switches ≡ generated_switches)

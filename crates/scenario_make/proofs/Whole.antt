@@ -14,7 +14,8 @@ use Rattle.scenario_lines.specs.PrintedLen.{declared_size, frame_size}
 use Rattle.scenario_lines.specs.declared.section.Section.TheVariants.{Done}
 use Rattle.scenario_parts.specs.Printed.{text_of}
 use Rattle.scenario_parts.proofs.LengthLemmas.{text_size}
-use Rattle.scenario_make.specs.Generator.{generated, generated_shape, generated_hosts, generated_switches, generated_flows, generated_asks, flow_names, generated_burst, generated_end, generated_round, last_burst, generated_rounds, generated_steps, IsGenerated}
+use Rattle.scenario_make.specs.Generator.{generated, generated_shape, generated_hosts, generated_switches, generated_flows, generated_asks, flow_names}
+use Rattle.scenario_make.specs.Generator.{generated_burst, generated_end, generated_round, last_burst, generated_rounds, generated_steps, IsGenerated}
 use Rattle.scenario_make.proofs.Lists.{length_of_pieces, sum_of_pieces}
 use Rattle.scenario_make.proofs.Declarations.{own_hosts, own_switches, own_flows, hosts_fit, switches_fit, flows_fit, asks_fit}
 use Rattle.scenario_make.proofs.Bursts.{steps_fine}

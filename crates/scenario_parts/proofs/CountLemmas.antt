@@ -16,11 +16,13 @@ pub one_more : (ts : List Step) (i : ℕ) (t : Step) → i < length ts → t ≡
 one_more ts i t lt is = rw (take_more ts i t lt, ← is) refl
 
 -- A step that is no end of one switch.
-pub other_counted : (ts : List Step) (i k : ℕ) (t : Step) (n m : ℕ) → i < length ts → t ≡ get_or ts i t → n ≡ ends_of k (take i ts) → m ≡ n + cond (is_end_of k t) 1 0 → m ≡ ends_of k (take (i + 1) ts)
+pub other_counted : (ts : List Step) (i k : ℕ) (t : Step) (n m : ℕ) → i < length ts → t ≡ get_or ts i t → n ≡ ends_of k (take i ts)
+    → m ≡ n + cond (is_end_of k t) 1 0 → m ≡ ends_of k (take (i + 1) ts)
 other_counted ts i k t n m lt is so more = more ∙ rw (one_more ts i t lt is, so) (sym (ends_more k (take i ts) t))
 
 -- The switch of an end is there.
-pub end_in_range : (switches : ℕ) (ts : List Step) (i at : ℕ) (t : Step) → All (IsEndInRange switches) ts → i < length ts → t ≡ get_or ts i t → t ≡ End at → at < switches
+pub end_in_range : (switches : ℕ) (ts : List Step) (i at : ℕ) (t : Step) → All (IsEndInRange switches) ts → i < length ts → t ≡ get_or ts i t → t ≡ End at
+    → at < switches
 end_in_range switches ts i at t all lt is end = let here : IsEndInRange switches t = rw is (all i t lt) in rw end at here
 
 -- One switch has too many ends.

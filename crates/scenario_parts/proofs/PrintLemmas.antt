@@ -15,8 +15,10 @@ spaced_append : (ws vs : Words) → spaced (ws ++ vs) ≡ spaced ws ++ spaced vs
 spaced_append [] vs = refl
 spaced_append (w ∷ ws) vs = rw (spaced_append ws vs, append_assoc w (spaced ws) (spaced vs)) refl
 
-pub two_parts : (old one two : Kind) (w : List ℕ) (ws vs : Words) → one ≡ grown old (joined (w ∷ ws)) → two ≡ grown one (spaced vs) → two ≡ grown old (joined (w ∷ (ws ++ vs)))
-two_parts old one two w ws vs a b = b ∙ ap (λ (k : Kind). grown k (spaced vs)) a ∙ grown_on old (w ++ spaced ws) (spaced vs) ∙ ap (λ (text : List ℕ). grown old text) (append_assoc w (spaced ws) (spaced vs) ∙ ap (λ (text : List ℕ). w ++ text) (sym (spaced_append ws vs)))
+pub two_parts : (old one two : Kind) (w : List ℕ) (ws vs : Words) → one ≡ grown old (joined (w ∷ ws)) → two ≡ grown one (spaced vs)
+    → two ≡ grown old (joined (w ∷ (ws ++ vs)))
+two_parts old one two w ws vs a b = b ∙ ap (λ (k : Kind). grown k (spaced vs)) a ∙ grown_on old (w ++ spaced ws) (spaced vs)
+    ∙ ap (λ (text : List ℕ). grown old text) (append_assoc w (spaced ws) (spaced vs) ∙ ap (λ (text : List ℕ). w ++ text) (sym (spaced_append ws vs)))
 
 pub with_end : (old two three : Kind) (ws : Words) → two ≡ grown old (joined ws) → three ≡ grown two (10 ∷ []) → three ≡ grown old (line_text ws)
 with_end old two three ws a b = b ∙ ap (λ (k : Kind). grown k (10 ∷ [])) a ∙ grown_on old (joined ws) (10 ∷ [])

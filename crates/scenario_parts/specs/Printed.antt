@@ -4,7 +4,8 @@ use Rattle.std.specs.List.{flat_map}
 use Rattle.lg_model.specs.declared.scenario.HostLine.{HostLine}
 use Rattle.lg_model.specs.Scenario.{Scenario}
 use Rattle.text_out.specs.Words.{Words}
-use Rattle.scenario_lines.specs.Spelling.{line_text, guardian_words, shape_line_words, pick_line_words, host_words, switch_words, flow_words, link_words, step_words, ask_words, done_words}
+use Rattle.scenario_lines.specs.Spelling.{line_text, guardian_words, shape_line_words, pick_line_words, host_words, switch_words, flow_words, link_words}
+use Rattle.scenario_lines.specs.Spelling.{step_words, ask_words, done_words}
 
 -- The text of the lines of some parts, in their order, with these words for each.
 abbrev pub lines_text : {X : Type 0} → (X → Words) → List X → List ℕ
@@ -20,7 +21,8 @@ first_text w = line_text guardian_words ++ (line_text (shape_line_words w.shape)
 
 -- The declarations: the hosts, the switches, the flows, and the links of hosts that have letters.
 abbrev pub declared_text : Scenario → List ℕ
-declared_text w = lines_text host_words w.hosts ++ (lines_text switch_words w.switches ++ (lines_text (flow_words w.hosts w.switches) w.flows ++ flat_map link_text w.hosts))
+declared_text w = lines_text host_words w.hosts ++
+    (lines_text switch_words w.switches ++ (lines_text (flow_words w.hosts w.switches) w.flows ++ flat_map link_text w.hosts))
 
 -- The steps, the asks and the last line.
 abbrev pub happening_text : Scenario → List ℕ

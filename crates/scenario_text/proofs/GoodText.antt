@@ -1,5 +1,6 @@
 -- Parts whose printed text is a scenario text are good: they fit each other, and the text is no longer than a text may be.
-use Rattle.std.proofs.Common.{◌≡◌, ℕ, ◌+◌, ◌-◌, ◌<◌, ◌≤◌, ◌||◌, Bool, true, false, cond, eqb, List, [], ◌∷◌, ◌++◌, length, length-append, take, map, refl, sym, ap, subst, ◌∙◌, arith, All, append_assoc, ◌⊎◌, inl, inr}
+use Rattle.std.proofs.Common.{◌≡◌, ℕ, ◌+◌, ◌-◌, ◌<◌, ◌≤◌, ◌||◌, Bool, true, false, cond, eqb, List, [], ◌∷◌, ◌++◌, length, length-append, take, map, refl}
+use Rattle.std.proofs.Common.{sym, ap, subst, ◌∙◌, arith, All, append_assoc, ◌⊎◌, inl, inr}
 use Rattle.std.specs.Prelude.{Result, Ok, Err, nat_le}
 use Rattle.std.specs.List.{flat_map}
 use Rattle.std.proofs.Math.Seq.{take-append-add}
@@ -22,7 +23,8 @@ use Rattle.scenario_lines.specs.declared.section.Section.TheVariants.{Declaratio
 use Rattle.scenario_lines.specs.Sections.{is_done}
 use Rattle.lg_model.specs.Ranges.{IsHashRange, IsPickRange, HasRanges, IsFlowRange, IsStepRange, IsAskRange}
 use Rattle.text_out.specs.Words.{Words, joined}
-use Rattle.scenario_lines.specs.Spelling.{line_text, guardian_words, shape_line_words, pick_line_words, host_words, switch_words, flow_words, link_words, step_words, ask_words, done_words}
+use Rattle.scenario_lines.specs.Spelling.{line_text, guardian_words, shape_line_words, pick_line_words, host_words, switch_words, flow_words, link_words}
+use Rattle.scenario_lines.specs.Spelling.{step_words, ask_words, done_words}
 use Rattle.scenario_lines.specs.Draft.{State, start, IsDraft}
 use Rattle.scenario_lines.specs.Line.{line_of}
 use Rattle.scenario_text.specs.Text.{Fault, after_line, lines_say, reading}
@@ -53,16 +55,19 @@ Passes s piece t = (m : ℕ) (more : List ℕ) (q : Scenario) → IsDraft s → 
 
 -- ---- one line
 
-after_read : (n : ℕ) (r : Result State Why) (next : State → Result Scenario Fault) (q : Scenario) → after_line n r next ≡ Ok q → (t : State) × (r ≡ Ok t) × (is_done t.section ≡ false → next t ≡ Ok q)
+after_read : (n : ℕ) (r : Result State Why) (next : State → Result Scenario Fault) (q : Scenario) → after_line n r next ≡ Ok q
+    → (t : State) × (r ≡ Ok t) × (is_done t.section ≡ false → next t ≡ Ok q)
 after_read n (Err why) next q h = absurd cc
 after_read n (Ok t) next q h = (t, refl, λ still. rw still at h)
 
 -- A line that another part follows.
-line_said : (long : Bool) (n : ℕ) (s : State) (ws : Words) (parts : List (List ℕ)) (q : Scenario) → AreWords ws → 0 < length parts → lines_say long n s (joined ws ∷ parts) ≡ Ok q
+line_said : (long : Bool) (n : ℕ) (s : State) (ws : Words) (parts : List (List ℕ)) (q : Scenario) → AreWords ws → 0 < length parts
+    → lines_say long n s (joined ws ∷ parts) ≡ Ok q
     → (t : State) × (line_of s (joined ws) ≡ Ok t) × (is_done t.section ≡ false → lines_say long (n + 1) t parts ≡ Ok q)
 unfolding lines_say
 line_said long n s ws [] q ok lt h = absurd (omega (arith, lt))
-line_said long n s ws (p ∷ ps) q ok lt h = after_read n (line_of s (joined ws)) (λ t. lines_say long (n + 1) t (p ∷ ps)) q (rw (plain_bare (joined ws) (joined_plain ws ok)) at h)
+line_said long n s ws (p ∷ ps) q ok lt h =
+    after_read n (line_of s (joined ws)) (λ t. lines_say long (n + 1) t (p ∷ ps)) q (rw (plain_bare (joined ws) (joined_plain ws ok)) at h)
 
 same_le : (l k n : ℕ) → nat_le (l + k) (l + n) ≡ nat_le k n
 same_le l k n = grind arith
@@ -73,8 +78,11 @@ line_within : (k : ℕ) (s : State) (ws : Words) (more : List ℕ) (q : Scenario
 line_within k s ws more q ok says =
     let split = ap (words_at 10) (take-append-add (line_text ws) more k) ∙ line_first ws (take k more) ok in
     let long = ap (nat_le (length (line_text ws) + k)) (length-append (line_text ws) more) ∙ same_le (length (line_text ws)) k (length more) in
-    let here : lines_say (nat_le k (length more)) says.0 s (joined ws ∷ words_at 10 (take k more)) ≡ Ok q = sym (ap (λ (b : Bool). lines_say b says.0 s (words_at 10 (take (length (line_text ws) + k) (line_text ws ++ more)))) long ∙ ap (lines_say (nat_le k (length more)) says.0 s) split) ∙ says.1 in
-    let said = line_said (nat_le k (length more)) says.0 s ws (words_at 10 (take k more)) q ok (omega (arith, length-slice_split (λ b. eqb b 10) (take k more))) here in
+    let here : lines_say (nat_le k (length more)) says.0 s (joined ws ∷ words_at 10 (take k more)) ≡ Ok q =
+    sym (ap (λ (b : Bool). lines_say b says.0 s (words_at 10 (take (length (line_text ws) + k) (line_text ws ++ more)))) long
+    ∙ ap (lines_say (nat_le k (length more)) says.0 s) split) ∙ says.1 in
+    let said = line_said (nat_le k (length more)) says.0 s ws (words_at 10 (take k more)) q ok
+    (omega (arith, length-slice_split (λ b. eqb b 10) (take k more))) here in
     (said.0, said.1, λ still. (says.0 + 1, said.2 still))
 
 -- A line that has its end after the bytes that are looked at says nothing.
@@ -82,9 +90,13 @@ line_beyond : (m : ℕ) (s : State) (ws : Words) (more : List ℕ) (q : Scenario
 unfolding lines_say
 line_beyond m s ws more q ok less says =
     let len = length-append (joined ws) (10 ∷ []) in
-    let cut : take m (line_text ws ++ more) ≡ take m (joined ws) = ap (take m) (append_assoc (joined ws) (10 ∷ []) more) ∙ take-append-le m (joined ws) (10 ∷ more) (omega (arith, len, less)) in
-    let split : words_at 10 (take m (line_text ws ++ more)) ≡ take m (joined ws) ∷ [] = ap (words_at 10) cut ∙ slice_split_none (λ b. eqb b 10) (take m (joined ws)) (All-take (λ b. eqb b 10 ≡ false) m (joined ws) (plain_unbroken (joined ws) (joined_plain ws ok))) in
-    let long : nat_le m (length (line_text ws ++ more)) ≡ true = le-leb m (length (line_text ws ++ more)) (omega (arith, less, length-append (line_text ws) more)) in
+    let cut : take m (line_text ws ++ more) ≡ take m (joined ws) = ap (take m) (append_assoc (joined ws) (10 ∷ []) more)
+    ∙ take-append-le m (joined ws) (10 ∷ more) (omega (arith, len, less)) in
+    let split : words_at 10 (take m (line_text ws ++ more)) ≡ take m (joined ws) ∷ [] = ap (words_at 10) cut
+    ∙ slice_split_none (λ b. eqb b 10) (take m (joined ws))
+    (All-take (λ b. eqb b 10 ≡ false) m (joined ws) (plain_unbroken (joined ws) (joined_plain ws ok))) in
+    let long : nat_le m (length (line_text ws ++ more)) ≡ true =
+    le-leb m (length (line_text ws ++ more)) (omega (arith, less, length-append (line_text ws) more)) in
     let bad = rw (split, long) at says.1 in
     cc
 
@@ -126,76 +138,128 @@ each_passes : {X : Type 0} (S : List X → List X → State) (piece : X → List
     → (done rest : List X) → all ≡ done ++ rest → Passes (S done rest) (flat_map piece rest) (S all [])
 each_passes S piece all one done [] is = subst (λ (xs : List _). Passes (S done []) [] (S xs [])) (sym (is ∙ append-nil done)) (no_piece (S done []))
 each_passes S piece all one done (x ∷ rest) is =
-    both (S done (x ∷ rest)) (S (done ++ x ∷ []) rest) (S all []) (piece x) (flat_map piece rest) (one done rest x is) (each_passes S piece all one (done ++ x ∷ []) rest (is ∙ sym (append_assoc done (x ∷ []) rest)))
+    both (S done (x ∷ rest)) (S (done ++ x ∷ []) rest) (S all []) (piece x) (flat_map piece rest) (one done rest x is)
+    (each_passes S piece all one (done ++ x ∷ []) rest (is ∙ sym (append_assoc done (x ∷ []) rest)))
 
 -- ---- declarations
 
 seam : {X : Type 0} (P : X → Type 0) (xs done rest : List X) (x : X) → xs ≡ done ++ x ∷ rest → All P xs → P x
 seam P xs done rest x is all = at_seam P done rest x (subst (λ (ys : List _). All P ys) is all)
 
-hosts_pass : (w : Scenario) → HasRanges w → Passes (at_state Declarations (so_far w [] [] [] [] [])) (lines_text host_words w.hosts) (at_state Declarations (so_far w (map bare w.hosts) [] [] [] []))
-hosts_pass w ranges = each_passes (λ done rest. at_state Declarations (so_far w (map bare done) [] [] [] [])) (λ h. line_text (host_words h)) w.hosts one [] w.hosts refl where
-  one : (done rest : List HostLine) (h : HostLine) → w.hosts ≡ done ++ h ∷ rest → Passes (at_state Declarations (so_far w (map bare done) [] [] [] [])) (line_text (host_words h)) (at_state Declarations (so_far w (map bare (done ++ h ∷ [])) [] [] [] []))
-  one done rest h is = rw (map-append bare done (h ∷ []))
-      (line_passes (at_state Declarations (so_far w (map bare done) [] [] [] [])) (at_state Declarations (so_far w (map bare done ++ bare h ∷ []) [] [] [] [])) (host_words h) refl
-      (λ ok. host_leads (so_far w (map bare done) [] [] [] []) h ok (seam (λ g. g.name < 65536) w.hosts done rest h is ranges.hosts)))
+hosts_pass : (w : Scenario) → HasRanges w
+    → Passes (at_state Declarations (so_far w [] [] [] [] [])) (lines_text host_words w.hosts)
+    (at_state Declarations (so_far w (map bare w.hosts) [] [] [] []))
+hosts_pass w ranges = each_passes (λ done rest. at_state Declarations (so_far w (map bare done) [] [] [] []))
+    (λ h. line_text (host_words h)) w.hosts one [] w.hosts refl where
+      one : (done rest : List HostLine) (h : HostLine) → w.hosts ≡ done ++ h ∷ rest
+          → Passes (at_state Declarations (so_far w (map bare done) [] [] [] [])) (line_text (host_words h))
+          (at_state Declarations (so_far w (map bare (done ++ h ∷ [])) [] [] [] []))
+      one done rest h is = rw (map-append bare done (h ∷ []))
+          (line_passes (at_state Declarations (so_far w (map bare done) [] [] [] []))
+          (at_state Declarations (so_far w (map bare done ++ bare h ∷ []) [] [] [] [])) (host_words h) refl
+          (λ ok. host_leads (so_far w (map bare done) [] [] [] []) h ok (seam (λ g. g.name < 65536) w.hosts done rest h is ranges.hosts)))
 
-switches_pass : (w : Scenario) (hosts : List HostLine) → HasRanges w → Passes (at_state Declarations (so_far w hosts [] [] [] [])) (lines_text switch_words w.switches) (at_state Declarations (so_far w hosts w.switches [] [] []))
-switches_pass w hosts ranges = each_passes (λ done rest. at_state Declarations (so_far w hosts done [] [] [])) (λ n. line_text (switch_words n)) w.switches one [] w.switches refl where
-  one : (done rest : List ℕ) (n : ℕ) → w.switches ≡ done ++ n ∷ rest → Passes (at_state Declarations (so_far w hosts done [] [] [])) (line_text (switch_words n)) (at_state Declarations (so_far w hosts (done ++ n ∷ []) [] [] []))
-  one done rest n is =
-      line_passes (at_state Declarations (so_far w hosts done [] [] [])) (at_state Declarations (so_far w hosts (done ++ n ∷ []) [] [] [])) (switch_words n) refl
-      (λ ok. switch_leads (so_far w hosts done [] [] []) n ok (seam (λ m. m < 65536) w.switches done rest n is ranges.switches))
+switches_pass : (w : Scenario) (hosts : List HostLine) → HasRanges w
+    → Passes (at_state Declarations (so_far w hosts [] [] [] [])) (lines_text switch_words w.switches)
+    (at_state Declarations (so_far w hosts w.switches [] [] []))
+switches_pass w hosts ranges =
+    each_passes (λ done rest. at_state Declarations (so_far w hosts done [] [] []))
+    (λ n. line_text (switch_words n)) w.switches one [] w.switches refl where
+      one : (done rest : List ℕ) (n : ℕ) → w.switches ≡ done ++ n ∷ rest
+          → Passes (at_state Declarations (so_far w hosts done [] [] [])) (line_text (switch_words n))
+          (at_state Declarations (so_far w hosts (done ++ n ∷ []) [] [] []))
+      one done rest n is =
+          line_passes (at_state Declarations (so_far w hosts done [] [] [])) (at_state Declarations (so_far w hosts (done ++ n ∷ []) [] [] []))
+          (switch_words n) refl
+          (λ ok. switch_leads (so_far w hosts done [] [] []) n ok (seam (λ m. m < 65536) w.switches done rest n is ranges.switches))
 
-flows_pass : (w : Scenario) → HasRanges w → AreInRange w → Passes (at_state Declarations (so_far w (map bare w.hosts) w.switches [] [] [])) (lines_text (flow_words w.hosts w.switches) w.flows) (at_state Declarations (so_far w (map bare w.hosts) w.switches w.flows [] []))
-flows_pass w ranges positions = each_passes (λ done rest. at_state Declarations (so_far w (map bare w.hosts) w.switches done [] [])) (λ f. line_text (flow_words w.hosts w.switches f)) w.flows one [] w.flows refl where
-  one : (done rest : List Flow) (f : Flow) → w.flows ≡ done ++ f ∷ rest → Passes (at_state Declarations (so_far w (map bare w.hosts) w.switches done [] [])) (line_text (flow_words w.hosts w.switches f)) (at_state Declarations (so_far w (map bare w.hosts) w.switches (done ++ f ∷ []) [] []))
-  one done rest f is =
-      let within : IsFlowInRange (length (map bare w.hosts)) (length w.switches) f = rw (length-map w.hosts bare) (seam (IsFlowInRange (length w.hosts) (length w.switches)) w.flows done rest f is positions.flows) in
-      line_passes (at_state Declarations (so_far w (map bare w.hosts) w.switches done [] [])) (at_state Declarations (so_far w (map bare w.hosts) w.switches (done ++ f ∷ []) [] [])) (flow_words w.hosts w.switches f) refl
-      (λ ok. flow_leads (so_far w (map bare w.hosts) w.switches done [] []) w.hosts f ok (bare_names w.hosts) (seam IsFlowRange w.flows done rest f is ranges.flows) within)
+flows_pass : (w : Scenario) → HasRanges w → AreInRange w
+    → Passes (at_state Declarations (so_far w (map bare w.hosts) w.switches [] [] [])) (lines_text (flow_words w.hosts w.switches) w.flows)
+    (at_state Declarations (so_far w (map bare w.hosts) w.switches w.flows [] []))
+flows_pass w ranges positions =
+    each_passes (λ done rest. at_state Declarations (so_far w (map bare w.hosts) w.switches done [] []))
+    (λ f. line_text (flow_words w.hosts w.switches f)) w.flows one [] w.flows refl where
+      one : (done rest : List Flow) (f : Flow) → w.flows ≡ done ++ f ∷ rest
+          → Passes (at_state Declarations (so_far w (map bare w.hosts) w.switches done [] [])) (line_text (flow_words w.hosts w.switches f))
+          (at_state Declarations (so_far w (map bare w.hosts) w.switches (done ++ f ∷ []) [] []))
+      one done rest f is =
+          let within : IsFlowInRange (length (map bare w.hosts)) (length w.switches) f =
+          rw (length-map w.hosts bare) (seam (IsFlowInRange (length w.hosts) (length w.switches)) w.flows done rest f is positions.flows) in
+          line_passes (at_state Declarations (so_far w (map bare w.hosts) w.switches done [] []))
+          (at_state Declarations (so_far w (map bare w.hosts) w.switches (done ++ f ∷ []) [] [])) (flow_words w.hosts w.switches f) refl
+          (λ ok. flow_leads (so_far w (map bare w.hosts) w.switches done [] []) w.hosts f ok (bare_names w.hosts)
+          (seam IsFlowRange w.flows done rest f is ranges.flows) within)
 
-link_passes : (w : Scenario) (done rest : List HostLine) (h : HostLine) → h.name < 65536 → Passes (at_state Declarations (so_far w (done ++ bare h ∷ rest) w.switches w.flows [] [])) (link_text h) (at_state Declarations (so_far w (done ++ h ∷ rest) w.switches w.flows [] []))
+link_passes : (w : Scenario) (done rest : List HostLine) (h : HostLine) → h.name < 65536
+    → Passes (at_state Declarations (so_far w (done ++ bare h ∷ rest) w.switches w.flows [] [])) (link_text h)
+    (at_state Declarations (so_far w (done ++ h ∷ rest) w.switches w.flows [] []))
 link_passes w done rest h small = by (eqb (length h.letters) 0) refl where
-  by : (b : Bool) → eqb (length h.letters) 0 ≡ b → Passes (at_state Declarations (so_far w (done ++ bare h ∷ rest) w.switches w.flows [] [])) (cond b [] (line_text (link_words h))) (at_state Declarations (so_far w (done ++ h ∷ rest) w.switches w.flows [] []))
+  by : (b : Bool) → eqb (length h.letters) 0 ≡ b
+      → Passes (at_state Declarations (so_far w (done ++ bare h ∷ rest) w.switches w.flows [] [])) (cond b [] (line_text (link_words h)))
+      (at_state Declarations (so_far w (done ++ h ∷ rest) w.switches w.flows [] []))
   by true e =
       let none : length h.letters ≡ 0 = grind arith in
       let same : bare h ≡ h = ap (λ (ls : List _). record { name = h.name; letters = ls }) (no_letters h.letters none) in
       rw same (no_piece (at_state Declarations (so_far w (done ++ h ∷ rest) w.switches w.flows [] [])))
   by false e =
       let some : 0 < length h.letters = grind arith in
-      line_passes (at_state Declarations (so_far w (done ++ bare h ∷ rest) w.switches w.flows [] [])) (at_state Declarations (so_far w (done ++ h ∷ rest) w.switches w.flows [] [])) (link_words h) refl
+      line_passes (at_state Declarations (so_far w (done ++ bare h ∷ rest) w.switches w.flows [] []))
+      (at_state Declarations (so_far w (done ++ h ∷ rest) w.switches w.flows [] [])) (link_words h) refl
       (λ ok. link_leads (so_far w [] w.switches w.flows [] []) done rest h ok small some)
 
-links_pass : (w : Scenario) → HasRanges w → Passes (at_state Declarations (so_far w (map bare w.hosts) w.switches w.flows [] [])) (flat_map link_text w.hosts) (at_state Declarations (so_far w w.hosts w.switches w.flows [] []))
-links_pass w ranges = rw (append-nil w.hosts) at (each_passes (λ done rest. at_state Declarations (so_far w (done ++ map bare rest) w.switches w.flows [] [])) link_text w.hosts one [] w.hosts refl) where
-  one : (done rest : List HostLine) (h : HostLine) → w.hosts ≡ done ++ h ∷ rest → Passes (at_state Declarations (so_far w (done ++ bare h ∷ map bare rest) w.switches w.flows [] [])) (link_text h) (at_state Declarations (so_far w ((done ++ h ∷ []) ++ map bare rest) w.switches w.flows [] []))
-  one done rest h is = rw (append_assoc done (h ∷ []) (map bare rest)) (link_passes w done (map bare rest) h (seam (λ g. g.name < 65536) w.hosts done rest h is ranges.hosts))
+links_pass : (w : Scenario) → HasRanges w
+    → Passes (at_state Declarations (so_far w (map bare w.hosts) w.switches w.flows [] [])) (flat_map link_text w.hosts)
+    (at_state Declarations (so_far w w.hosts w.switches w.flows [] []))
+links_pass w ranges = rw (append-nil w.hosts) at
+    (each_passes (λ done rest. at_state Declarations
+    (so_far w (done ++ map bare rest) w.switches w.flows [] [])) link_text w.hosts one [] w.hosts refl) where
+      one : (done rest : List HostLine) (h : HostLine) → w.hosts ≡ done ++ h ∷ rest
+          → Passes (at_state Declarations (so_far w (done ++ bare h ∷ map bare rest) w.switches w.flows [] [])) (link_text h)
+          (at_state Declarations (so_far w ((done ++ h ∷ []) ++ map bare rest) w.switches w.flows [] []))
+      one done rest h is = rw (append_assoc done (h ∷ []) (map bare rest))
+          (link_passes w done (map bare rest) h (seam (λ g. g.name < 65536) w.hosts done rest h is ranges.hosts))
 
 -- ---- steps and asks
 
-steps_pass : (w : Scenario) → HasRanges w → AreInRange w → Passes (at_state Declarations (so_far w w.hosts w.switches w.flows [] [])) (lines_text (step_words w.flows w.switches) w.steps) (at_state (section_of (some w.steps)) (so_far w w.hosts w.switches w.flows w.steps []))
-steps_pass w ranges positions = each_passes (λ done rest. at_state (section_of (some done)) (so_far w w.hosts w.switches w.flows done [])) (λ t. line_text (step_words w.flows w.switches t)) w.steps one [] w.steps refl where
-  one : (done rest : List Step) (t : Step) → w.steps ≡ done ++ t ∷ rest → Passes (at_state (section_of (some done)) (so_far w w.hosts w.switches w.flows done [])) (line_text (step_words w.flows w.switches t)) (at_state (section_of (some (done ++ t ∷ []))) (so_far w w.hosts w.switches w.flows (done ++ t ∷ []) []))
-  one done rest t is = rw (some_push done t)
-      (line_passes (at_state (section_of (some done)) (so_far w w.hosts w.switches w.flows done [])) (at_state Steps (so_far w w.hosts w.switches w.flows (done ++ t ∷ []) [])) (step_words w.flows w.switches t) refl
-      (λ ok. step_leads (some done) (so_far w w.hosts w.switches w.flows done []) t ok (seam IsStepRange w.steps done rest t is ranges.steps) (seam (IsStepInRange (length w.flows) (length w.switches)) w.steps done rest t is positions.steps)))
+steps_pass : (w : Scenario) → HasRanges w → AreInRange w
+    → Passes (at_state Declarations (so_far w w.hosts w.switches w.flows [] [])) (lines_text (step_words w.flows w.switches) w.steps)
+    (at_state (section_of (some w.steps)) (so_far w w.hosts w.switches w.flows w.steps []))
+steps_pass w ranges positions = each_passes (λ done rest. at_state (section_of (some done)) (so_far w w.hosts w.switches w.flows done []))
+    (λ t. line_text (step_words w.flows w.switches t)) w.steps one [] w.steps refl where
+      one : (done rest : List Step) (t : Step) → w.steps ≡ done ++ t ∷ rest
+          → Passes (at_state (section_of (some done)) (so_far w w.hosts w.switches w.flows done [])) (line_text (step_words w.flows w.switches t))
+          (at_state (section_of (some (done ++ t ∷ []))) (so_far w w.hosts w.switches w.flows (done ++ t ∷ []) []))
+      one done rest t is = rw (some_push done t)
+          (line_passes (at_state (section_of (some done)) (so_far w w.hosts w.switches w.flows done []))
+          (at_state Steps (so_far w w.hosts w.switches w.flows (done ++ t ∷ []) [])) (step_words w.flows w.switches t) refl
+          (λ ok. step_leads (some done) (so_far w w.hosts w.switches w.flows done []) t ok (seam IsStepRange w.steps done rest t is ranges.steps)
+          (seam (IsStepInRange (length w.flows) (length w.switches)) w.steps done rest t is positions.steps)))
 
-asks_pass : (w : Scenario) → HasRanges w → AreInRange w → Passes (at_state (section_of (some w.steps)) (so_far w w.hosts w.switches w.flows w.steps [])) (lines_text (ask_words w.flows) w.asks) (at_state (section_of (some w.steps || some w.asks)) w)
-asks_pass w ranges positions = rw (no_or (some w.steps)) at (each_passes (λ done rest. at_state (section_of (some w.steps || some done)) (so_far w w.hosts w.switches w.flows w.steps done)) (λ q. line_text (ask_words w.flows q)) w.asks one [] w.asks refl) where
-  no_or : (b : Bool) → (b || false) ≡ b
-  no_or true = refl
-  no_or false = refl
+asks_pass : (w : Scenario) → HasRanges w → AreInRange w
+    → Passes (at_state (section_of (some w.steps)) (so_far w w.hosts w.switches w.flows w.steps [])) (lines_text (ask_words w.flows) w.asks)
+    (at_state (section_of (some w.steps || some w.asks)) w)
+asks_pass w ranges positions =
+    rw (no_or (some w.steps)) at
+    (each_passes (λ done rest. at_state (section_of (some w.steps || some done)) (so_far w w.hosts w.switches w.flows w.steps done))
+    (λ q. line_text (ask_words w.flows q)) w.asks one [] w.asks refl) where
+      no_or : (b : Bool) → (b || false) ≡ b
+      no_or true = refl
+      no_or false = refl
 
-  one : (done rest : List Ask) (q : Ask) → w.asks ≡ done ++ q ∷ rest → Passes (at_state (section_of (some w.steps || some done)) (so_far w w.hosts w.switches w.flows w.steps done)) (line_text (ask_words w.flows q)) (at_state (section_of (some w.steps || some (done ++ q ∷ []))) (so_far w w.hosts w.switches w.flows w.steps (done ++ q ∷ [])))
-  one done rest q is = rw (some_push done q, or_some (some w.steps))
-      (line_passes (at_state (section_of (some w.steps || some done)) (so_far w w.hosts w.switches w.flows w.steps done)) (at_state Steps (so_far w w.hosts w.switches w.flows w.steps (done ++ q ∷ []))) (ask_words w.flows q) refl
-      (λ ok. ask_leads (some w.steps || some done) (so_far w w.hosts w.switches w.flows w.steps done) q ok (seam IsAskRange w.asks done rest q is ranges.asks) (seam (λ a. a.flow_at < length w.flows) w.asks done rest q is positions.asks)))
+      one : (done rest : List Ask) (q : Ask) → w.asks ≡ done ++ q ∷ rest
+          → Passes (at_state (section_of (some w.steps || some done)) (so_far w w.hosts w.switches w.flows w.steps done)) (line_text (ask_words w.flows q))
+          (at_state (section_of (some w.steps || some (done ++ q ∷ []))) (so_far w w.hosts w.switches w.flows w.steps (done ++ q ∷ [])))
+      one done rest q is = rw (some_push done q, or_some (some w.steps))
+          (line_passes (at_state (section_of (some w.steps || some done)) (so_far w w.hosts w.switches w.flows w.steps done))
+          (at_state Steps (so_far w w.hosts w.switches w.flows w.steps (done ++ q ∷ []))) (ask_words w.flows q) refl
+          (λ ok. ask_leads (some w.steps || some done) (so_far w w.hosts w.switches w.flows w.steps done) q ok
+          (seam IsAskRange w.asks done rest q is ranges.asks) (seam (λ a. a.flow_at < length w.flows) w.asks done rest q is positions.asks)))
 
 -- ---- the whole text
 
 -- Before the declarations only the shape and the pick have ranges.
-none_declared : (w : Scenario) (x : Section) → IsShape w.shape.rows w.shape.width → IsHashRange w.shape.hash → IsPickRange w.pick → IsDraft (at_state x (so_far w [] [] [] [] []))
+none_declared : (w : Scenario) (x : Section) → IsShape w.shape.rows w.shape.width → IsHashRange w.shape.hash → IsPickRange w.pick
+    → IsDraft (at_state x (so_far w [] [] [] [] []))
 none_declared w x shape hash pick = record {
   scenario = record {
     shape = shape;
@@ -211,19 +275,32 @@ none_declared w x shape hash pick = record {
 }
 
 start_draft : IsDraft start
-start_draft = none_declared start.parts sections.Version (record { some_rows = omega arith; few_rows = omega arith; some_width = omega arith; few_width = omega arith }) tt tt
+start_draft = none_declared start.parts sections.Version
+    (record { some_rows = omega arith; few_rows = omega arith; some_width = omega arith; few_width = omega arith }) tt tt
 
 first_pass : (w : Scenario) → HasRanges w → Passes start (first_text w) (at_state Declarations (so_far w [] [] [] [] []))
 first_pass w ranges =
     let w0 = start.parts in
     let w1 : Scenario = record w0 { shape = w.shape } in
-    let third = line_passes (at_state sections.Pick w1) (at_state Declarations (so_far w [] [] [] [] [])) (pick_line_words w.pick) refl (λ ok. (pick_are_words w.pick ranges.pick, λ u line. (pick_read w1 w.pick ranges.pick, none_declared w Declarations ranges.shape ranges.hash ranges.pick))) in
-    let second = line_passes (at_state sections.Shape w0) (at_state sections.Pick w1) (shape_line_words w.shape) refl (λ ok. (shape_are_words w.shape ranges.shape ranges.hash, λ u line. (shape_read w0 w.shape ranges.shape ranges.hash, none_declared w1 sections.Pick ranges.shape ranges.hash tt))) in
-    let one = line_passes start (at_state sections.Shape w0) guardian_words refl (λ ok. ((refl, (refl, tt)), λ u line. (guardian_read w0, none_declared w0 sections.Shape ok.scenario.shape tt tt))) in
-    both start (at_state sections.Shape w0) (at_state Declarations (so_far w [] [] [] [] [])) (line_text guardian_words) (line_text (shape_line_words w.shape) ++ line_text (pick_line_words w.pick)) one
-    (both (at_state sections.Shape w0) (at_state sections.Pick w1) (at_state Declarations (so_far w [] [] [] [] [])) (line_text (shape_line_words w.shape)) (line_text (pick_line_words w.pick)) second third)
+    let third = line_passes (at_state sections.Pick w1) (at_state Declarations (so_far w [] [] [] [] [])) (pick_line_words w.pick) refl
+    (λ ok. (
+      pick_are_words w.pick ranges.pick,
+      λ u line. (pick_read w1 w.pick ranges.pick, none_declared w Declarations ranges.shape ranges.hash ranges.pick),
+    )) in
+    let second = line_passes (at_state sections.Shape w0) (at_state sections.Pick w1) (shape_line_words w.shape) refl
+    (λ ok. (
+      shape_are_words w.shape ranges.shape ranges.hash,
+      λ u line. (shape_read w0 w.shape ranges.shape ranges.hash, none_declared w1 sections.Pick ranges.shape ranges.hash tt),
+    )) in
+    let one = line_passes start (at_state sections.Shape w0) guardian_words refl
+    (λ ok. ((refl, (refl, tt)), λ u line. (guardian_read w0, none_declared w0 sections.Shape ok.scenario.shape tt tt))) in
+    both start (at_state sections.Shape w0) (at_state Declarations (so_far w [] [] [] [] [])) (line_text guardian_words)
+    (line_text (shape_line_words w.shape) ++ line_text (pick_line_words w.pick)) one
+    (both (at_state sections.Shape w0) (at_state sections.Pick w1) (at_state Declarations (so_far w [] [] [] [] [])) (line_text (shape_line_words w.shape))
+    (line_text (pick_line_words w.pick)) second third)
 
-declared_pass : (w : Scenario) → HasRanges w → AreInRange w → Passes (at_state Declarations (so_far w [] [] [] [] [])) (declared_text w) (at_state Declarations (so_far w w.hosts w.switches w.flows [] []))
+declared_pass : (w : Scenario) → HasRanges w → AreInRange w
+    → Passes (at_state Declarations (so_far w [] [] [] [] [])) (declared_text w) (at_state Declarations (so_far w w.hosts w.switches w.flows [] []))
 declared_pass w ranges positions =
     let bares = map bare w.hosts in
     let none = at_state Declarations (so_far w [] [] [] [] []) in
@@ -231,9 +308,12 @@ declared_pass w ranges positions =
     let switches = at_state Declarations (so_far w bares w.switches [] [] []) in
     let flows = at_state Declarations (so_far w bares w.switches w.flows [] []) in
     let links = at_state Declarations (so_far w w.hosts w.switches w.flows [] []) in
-    both none hosts links (lines_text host_words w.hosts) (lines_text switch_words w.switches ++ (lines_text (flow_words w.hosts w.switches) w.flows ++ flat_map link_text w.hosts)) (hosts_pass w ranges)
-    (both hosts switches links (lines_text switch_words w.switches) (lines_text (flow_words w.hosts w.switches) w.flows ++ flat_map link_text w.hosts) (switches_pass w bares ranges)
-    (both switches flows links (lines_text (flow_words w.hosts w.switches) w.flows) (flat_map link_text w.hosts) (flows_pass w ranges positions) (links_pass w ranges)))
+    both none hosts links (lines_text host_words w.hosts)
+    (lines_text switch_words w.switches ++ (lines_text (flow_words w.hosts w.switches) w.flows ++ flat_map link_text w.hosts)) (hosts_pass w ranges)
+    (both hosts switches links (lines_text switch_words w.switches) (lines_text (flow_words w.hosts w.switches) w.flows ++ flat_map link_text w.hosts)
+    (switches_pass w bares ranges)
+    (both switches flows links (lines_text (flow_words w.hosts w.switches) w.flows) (flat_map link_text w.hosts) (flows_pass w ranges positions)
+    (links_pass w ranges)))
 
 -- All before the last line.
 undone_text : Scenario → List ℕ
@@ -256,10 +336,13 @@ last_apart : (a b c d e : List ℕ) → a ++ (b ++ (c ++ (d ++ e))) ≡ (a ++ (b
 last_apart a b c d e = rw (append_assoc a (b ++ (c ++ d)) e, append_assoc b (c ++ d) e, append_assoc c d e) refl
 
 -- Parts whose text says a scenario within its first m bytes fit each other, and their text has at most m bytes.
-good_parts : (m : ℕ) (w q : Scenario) → HasRanges w → AreInRange w → Says m start (text_of w) q → (IsDraft (at_state (section_of (some w.steps || some w.asks)) w)) × (length (text_of w) ≤ m)
+good_parts : (m : ℕ) (w q : Scenario) → HasRanges w → AreInRange w → Says m start (text_of w) q
+    → (IsDraft (at_state (section_of (some w.steps || some w.asks)) w)) × (length (text_of w) ≤ m)
 unfolding undone_text
 good_parts m w q ranges positions says =
-    let is : text_of w ≡ undone_text w ++ line_text done_words = last_apart (first_text w) (declared_text w) (lines_text (step_words w.flows w.switches) w.steps) (lines_text (ask_words w.flows) w.asks) (line_text done_words) in
+    let is : text_of w ≡ undone_text w ++ line_text done_words =
+    last_apart (first_text w) (declared_text w) (lines_text (step_words w.flows w.switches) w.steps) (lines_text (ask_words w.flows) w.asks)
+    (line_text done_words) in
     let end = undone_pass w ranges positions m (line_text done_words) q start_draft (subst (λ (text : List ℕ). Says m start text q) is says) in
     let fits = line_fits end.left (at_state (section_of (some w.steps || some w.asks)) w) done_words [] q (refl, tt) end.says in
     (end.draft, omega (arith, ap length is, length-append (undone_text w) (line_text done_words), end.len, fits))

@@ -5,7 +5,8 @@ use Rattle.std.specs.List.{list_any, list_all, position}
 use Rattle.std.specs.Str.{bytes_eq}
 use Rattle.flow_key.specs.KeyText.{address_of}
 use Rattle.flow_key.specs.Words.{words_at, number_to}
-use Rattle.lg_model.specs.declared.limits.TheConstants.{MOST_ROWS, MOST_WIDTH, MOST_HOSTS, MOST_SWITCHES, MOST_FLOWS, MOST_PACKETS, MOST_ENDS, MOST_ASKS, MOST_HOPS, MOST_LETTERS}
+use Rattle.lg_model.specs.declared.limits.TheConstants.{MOST_ROWS, MOST_WIDTH, MOST_HOSTS, MOST_SWITCHES, MOST_FLOWS, MOST_PACKETS, MOST_ENDS, MOST_ASKS}
+use Rattle.lg_model.specs.declared.limits.TheConstants.{MOST_HOPS, MOST_LETTERS}
 use Rattle.lg_model.specs.declared.scenario.HostLine.{HostLine}
 use Rattle.lg_model.specs.declared.scenario.Flow.{Flow}
 use Rattle.lg_model.specs.declared.scenario.Step.{Step}
@@ -18,8 +19,11 @@ use Rattle.lg_model.specs.Keeping.{names_of, ends_of}
 use Rattle.lg_model.specs.Scenario.{path_at}
 use Rattle.text_out.specs.Words.{Words}
 use Rattle.scenario_lines.specs.Draft.{State}
-use Rattle.scenario_lines.specs.Fields.{◌>>=◌, number, word, no_more, fresh_name, known_name, position_of, fresh_host, host_position, fresh_flow, room, room_to, all_room, room_for_all, or_bad_key, key_address, key_number, key, hop, path, hash, pick, is_letter, letters_word, delays, burst, fate_ended, fate}
-use Rattle.scenario_lines.specs.Line.{shape_line, pick_line, host_line, switch_line, flow_line, no_letters, unlinked, link_line, packet_line, end_one, end_all, end_line, release_line, ask_line, done_line, form_of, known_line, words_line, is_skipped, line_of}
+use Rattle.scenario_lines.specs.Fields.{◌>>=◌, number, word, no_more, fresh_name, known_name, position_of, fresh_host, host_position, fresh_flow, room}
+use Rattle.scenario_lines.specs.Fields.{room_to, all_room, room_for_all, or_bad_key, key_address, key_number, key, hop, path, hash, pick, is_letter}
+use Rattle.scenario_lines.specs.Fields.{letters_word, delays, burst, fate_ended, fate}
+use Rattle.scenario_lines.specs.Line.{shape_line, pick_line, host_line, switch_line, flow_line, no_letters, unlinked, link_line, packet_line, end_one}
+use Rattle.scenario_lines.specs.Line.{end_all, end_line, release_line, ask_line, done_line, form_of, known_line, words_line, is_skipped, line_of}
 
 -- A why of a line, and not of a whole text.
 abbrev pub IsOfALine : Why → Type 0
@@ -129,11 +133,16 @@ key_number_why most (w ∷ ws) = or_bad_key_why ws (number_to most w)
 
 key_why : (ws : Words) → OfALine (key ws)
 unfolding key
-key_why ws = (step _ _ (key_address_why ws) (λ src. (step _ _ (key_address_why src.1) (λ dst. (step _ _ (key_number_why 255 dst.1) (λ proto. (step _ _ (key_number_why 65535 proto.1) (λ sport. (step _ _ (key_number_why 65535 sport.1) (λ dport. (good _)))))))))))
+key_why ws = (step _ _ (key_address_why ws)
+    (λ src. (step _ _ (key_address_why src.1)
+    (λ dst. (step _ _ (key_number_why 255 dst.1)
+    (λ proto. (step _ _ (key_number_why 65535 proto.1) (λ sport. (step _ _ (key_number_why 65535 sport.1) (λ dport. (good _)))))))))))
 
 hop_why : (switches sofar w : List ℕ) → OfALine (hop switches sofar w)
 unfolding hop
-hop_why switches sofar w = (branch (eqb (length sofar) MOST_HOPS) _ _ (bad whys.BadPath tt) (step _ _ (number_why 0 65535 (w ∷ [])) (λ x. (step _ _ (position_why switches x.0) (λ at. (step _ _ (fresh_name_why sofar at) (λ new. (good _))))))))
+hop_why switches sofar w =
+    (branch (eqb (length sofar) MOST_HOPS) _ _ (bad whys.BadPath tt)
+    (step _ _ (number_why 0 65535 (w ∷ [])) (λ x. (step _ _ (position_why switches x.0) (λ at. (step _ _ (fresh_name_why sofar at) (λ new. (good _))))))))
 
 path_why : (switches sofar : List ℕ) (ws : Words) → OfALine (path switches sofar ws)
 unfolding path
@@ -143,12 +152,14 @@ path_why switches sofar (w ∷ ws) = (step _ _ (hop_why switches sofar w) (λ at
 hash_why : (ws : Words) → OfALine (hash ws)
 unfolding hash
 hash_why [] = bad whys.WordCount tt
-hash_why (w ∷ ws) = (branch (bytes_eq w (codes "ports")) _ _ (good _) (branch (bytes_eq w (codes "seed")) _ _ (step _ _ (number_why 0 18446744073709551615 ws) (λ n. (good _))) (bad whys.BadWord tt)))
+hash_why (w ∷ ws) = (branch (bytes_eq w (codes "ports")) _ _ (good _)
+    (branch (bytes_eq w (codes "seed")) _ _ (step _ _ (number_why 0 18446744073709551615 ws) (λ n. (good _))) (bad whys.BadWord tt)))
 
 pick_why : (ws : Words) → OfALine (pick ws)
 unfolding pick
 pick_why [] = bad whys.WordCount tt
-pick_why (w ∷ ws) = (branch (bytes_eq w (codes "turns")) _ _ (good _) (branch (bytes_eq w (codes "chance")) _ _ (step _ _ (number_why 0 18446744073709551615 ws) (λ n. (good _))) (bad whys.BadWord tt)))
+pick_why (w ∷ ws) = (branch (bytes_eq w (codes "turns")) _ _ (good _)
+    (branch (bytes_eq w (codes "chance")) _ _ (step _ _ (number_why 0 18446744073709551615 ws) (λ n. (good _))) (bad whys.BadWord tt)))
 
 letters_why : (ws : Words) → OfALine (letters_word ws)
 unfolding letters_word
@@ -173,13 +184,18 @@ fate_ended_why (w ∷ ws) = (branch (bytes_eq w (codes "burst")) _ _ (bad whys.B
 fate_why : (hops : ℕ) (ws : Words) → OfALine (fate hops ws)
 unfolding fate
 fate_why hops [] = good _
-fate_why hops (w ∷ ws) = (branch (bytes_eq w (codes "lost")) _ _ (step _ _ (number_why 0 hops ws) (λ k. (step _ _ (fate_ended_why k.1) (λ e. (good _))))) (branch (bytes_eq w (codes "twice")) _ _ (step _ _ (fate_ended_why ws) (λ e. (good _))) (branch (bytes_eq w (codes "late")) _ _ (step _ _ (fate_ended_why ws) (λ e. (good _))) (bad whys.BadWord tt))))
+fate_why hops (w ∷ ws) =
+    (branch (bytes_eq w (codes "lost")) _ _ (step _ _ (number_why 0 hops ws) (λ k. (step _ _ (fate_ended_why k.1) (λ e. (good _)))))
+    (branch (bytes_eq w (codes "twice")) _ _ (step _ _ (fate_ended_why ws) (λ e. (good _)))
+    (branch (bytes_eq w (codes "late")) _ _ (step _ _ (fate_ended_why ws) (λ e. (good _))) (bad whys.BadWord tt))))
 
 -- ---- lines
 
 shape_line_why : (s : State) (ws : Words) → OfALine (shape_line s ws)
 unfolding shape_line
-shape_line_why s ws = (step _ _ (number_why 1 MOST_ROWS ws) (λ rows. (step _ _ (number_why 1 MOST_WIDTH rows.1) (λ width. (step _ _ (hash_why width.1) (λ hashed. (step _ _ (no_more_why hashed.1) (λ end. (good _)))))))))
+shape_line_why s ws = (step _ _ (number_why 1 MOST_ROWS ws)
+    (λ rows. (step _ _ (number_why 1 MOST_WIDTH rows.1)
+    (λ width. (step _ _ (hash_why width.1) (λ hashed. (step _ _ (no_more_why hashed.1) (λ end. (good _)))))))))
 
 pick_line_why : (s : State) (ws : Words) → OfALine (pick_line s ws)
 unfolding pick_line
@@ -187,15 +203,26 @@ pick_line_why s ws = (step _ _ (pick_why ws) (λ x. (step _ _ (no_more_why x.1) 
 
 host_line_why : (s : State) (ws : Words) → OfALine (host_line s ws)
 unfolding host_line
-host_line_why s ws = (step _ _ (number_why 0 65535 ws) (λ h. (step _ _ (fresh_host_why s.parts.hosts h.0) (λ new. (step _ _ (no_more_why h.1) (λ end. (step _ _ (room_why MOST_HOSTS (length s.parts.hosts)) (λ fits. (good _)))))))))
+host_line_why s ws = (step _ _ (number_why 0 65535 ws)
+    (λ h. (step _ _ (fresh_host_why s.parts.hosts h.0)
+    (λ new. (step _ _ (no_more_why h.1) (λ end. (step _ _ (room_why MOST_HOSTS (length s.parts.hosts)) (λ fits. (good _)))))))))
 
 switch_line_why : (s : State) (ws : Words) → OfALine (switch_line s ws)
 unfolding switch_line
-switch_line_why s ws = (step _ _ (number_why 0 65535 ws) (λ x. (step _ _ (fresh_name_why s.parts.switches x.0) (λ new. (step _ _ (no_more_why x.1) (λ end. (step _ _ (room_why MOST_SWITCHES (length s.parts.switches)) (λ fits. (good _)))))))))
+switch_line_why s ws = (step _ _ (number_why 0 65535 ws)
+    (λ x. (step _ _ (fresh_name_why s.parts.switches x.0)
+    (λ new. (step _ _ (no_more_why x.1) (λ end. (step _ _ (room_why MOST_SWITCHES (length s.parts.switches)) (λ fits. (good _)))))))))
 
 flow_line_why : (s : State) (ws : Words) → OfALine (flow_line s ws)
 unfolding flow_line
-flow_line_why s ws = (step _ _ (number_why 0 65535 ws) (λ f. (step _ _ (fresh_flow_why s.parts.flows f.0) (λ new. (step _ _ (key_why f.1) (λ k. (step _ _ (word_why (codes "host") k.1) (λ h. (step _ _ (number_why 0 65535 h) (λ host. (step _ _ (host_position_why s.parts.hosts host.0) (λ at. (step _ _ (word_why (codes "path") host.1) (λ p. (step _ _ (path_why s.parts.switches [] p) (λ hops. (step _ _ (room_why MOST_FLOWS (length s.parts.flows)) (λ fits. (good _)))))))))))))))))))
+flow_line_why s ws = (step _ _ (number_why 0 65535 ws)
+    (λ f. (step _ _ (fresh_flow_why s.parts.flows f.0)
+    (λ new. (step _ _ (key_why f.1)
+    (λ k. (step _ _ (word_why (codes "host") k.1)
+    (λ h. (step _ _ (number_why 0 65535 h)
+    (λ host. (step _ _ (host_position_why s.parts.hosts host.0)
+    (λ at. (step _ _ (word_why (codes "path") host.1)
+    (λ p. (step _ _ (path_why s.parts.switches [] p) (λ hops. (step _ _ (room_why MOST_FLOWS (length s.parts.flows)) (λ fits. (good _)))))))))))))))))))
 
 no_letters_why : (o : Option HostLine) → OfALine (no_letters o)
 no_letters_why None = bad whys.UnknownName tt
@@ -207,15 +234,24 @@ unlinked_why hosts at = no_letters_why (slice_get hosts at)
 
 link_line_why : (s : State) (ws : Words) → OfALine (link_line s ws)
 unfolding link_line
-link_line_why s ws = (step _ _ (number_why 0 65535 ws) (λ h. (step _ _ (host_position_why s.parts.hosts h.0) (λ at. (step _ _ (unlinked_why s.parts.hosts at) (λ new. (step _ _ (letters_why h.1) (λ x. (step _ _ (no_more_why x.1) (λ end. (good _)))))))))))
+link_line_why s ws = (step _ _ (number_why 0 65535 ws)
+    (λ h. (step _ _ (host_position_why s.parts.hosts h.0)
+    (λ at. (step _ _ (unlinked_why s.parts.hosts at) (λ new. (step _ _ (letters_why h.1) (λ x. (step _ _ (no_more_why x.1) (λ end. (good _)))))))))))
 
 packet_line_why : (s : State) (ws : Words) → OfALine (packet_line s ws)
 unfolding packet_line
-packet_line_why s ws = (step _ _ (number_why 0 65535 ws) (λ f. (step _ _ (position_why (names_of s.parts.flows) f.0) (λ at. (step _ _ (number_why 0 65535 f.1) (λ size. (step _ _ (delays_why (path_at s.parts.flows at) [] size.1) (λ d. (step _ _ (burst_why d.1) (λ b. (step _ _ (fate_why (length (path_at s.parts.flows at)) b.1) (λ x. (step _ _ (room_to_why MOST_PACKETS _) (λ fits. (good _)))))))))))))))
+packet_line_why s ws = (step _ _ (number_why 0 65535 ws)
+    (λ f. (step _ _ (position_why (names_of s.parts.flows) f.0)
+    (λ at. (step _ _ (number_why 0 65535 f.1)
+    (λ size. (step _ _ (delays_why (path_at s.parts.flows at) [] size.1)
+    (λ d. (step _ _ (burst_why d.1)
+    (λ b. (step _ _ (fate_why (length (path_at s.parts.flows at)) b.1) (λ x. (step _ _ (room_to_why MOST_PACKETS _) (λ fits. (good _)))))))))))))))
 
 end_one_why : (s : State) (ws : Words) → OfALine (end_one s ws)
 unfolding end_one
-end_one_why s ws = (step _ _ (number_why 0 65535 ws) (λ x. (step _ _ (position_why s.parts.switches x.0) (λ at. (step _ _ (no_more_why x.1) (λ end. (step _ _ (room_why MOST_ENDS (ends_of at s.parts.steps)) (λ fits. (good _)))))))))
+end_one_why s ws = (step _ _ (number_why 0 65535 ws)
+    (λ x. (step _ _ (position_why s.parts.switches x.0)
+    (λ at. (step _ _ (no_more_why x.1) (λ end. (step _ _ (room_why MOST_ENDS (ends_of at s.parts.steps)) (λ fits. (good _)))))))))
 
 end_all_why : (s : State) (ws : Words) → OfALine (end_all s ws)
 unfolding end_all
@@ -232,7 +268,12 @@ release_line_why s ws = (step _ _ (no_more_why ws) (λ end. (good _)))
 
 ask_line_why : (s : State) (ws : Words) → OfALine (ask_line s ws)
 unfolding ask_line
-ask_line_why s ws = (step _ _ (number_why 0 65535 ws) (λ f. (step _ _ (position_why (names_of s.parts.flows) f.0) (λ at. (step _ _ (number_why 0 65535 f.1) (λ x. (step _ _ (known_name_why s.parts.switches x.0) (λ here. (step _ _ (number_why 0 4294967295 x.1) (λ e. (step _ _ (no_more_why e.1) (λ end. (step _ _ (room_why MOST_ASKS (length s.parts.asks)) (λ fits. (good _)))))))))))))))
+ask_line_why s ws = (step _ _ (number_why 0 65535 ws)
+    (λ f. (step _ _ (position_why (names_of s.parts.flows) f.0)
+    (λ at. (step _ _ (number_why 0 65535 f.1)
+    (λ x. (step _ _ (known_name_why s.parts.switches x.0)
+    (λ here. (step _ _ (number_why 0 4294967295 x.1)
+    (λ e. (step _ _ (no_more_why e.1) (λ end. (step _ _ (room_why MOST_ASKS (length s.parts.asks)) (λ fits. (good _)))))))))))))))
 
 done_line_why : (s : State) (ws : Words) → OfALine (done_line s ws)
 unfolding done_line
@@ -262,4 +303,6 @@ words_line_why s (w ∷ ws) = known_line_why (keyword_of w) s ws
 
 pub line_why : (s : State) (line : List ℕ) → OfALine (line_of s line)
 unfolding line_of
-line_why s line = (branch (is_skipped line) _ _ (good _) (branch (is_first s.section) _ _ (branch (bytes_eq line (codes "guardian 1")) _ _ (good _) (bad whys.Version tt)) (words_line_why s (words_at 32 line))))
+line_why s line = (branch (is_skipped line) _ _ (good _)
+    (branch (is_first s.section) _ _ (branch (bytes_eq line (codes "guardian 1")) _ _ (good _) (bad whys.Version tt))
+    (words_line_why s (words_at 32 line))))

@@ -1,5 +1,6 @@
 -- Names that don't come twice are found at their positions.
-use Rattle.std.proofs.Common.{◌≡◌, ◌≢◌, ℕ, ◌<◌, Bool, true, false, eqb, ltb, ◌||◌, List, [], ◌∷◌, ◌++◌, length, length-append, get_or, map, Some, refl, ap, arith, All}
+use Rattle.std.proofs.Common.{◌≡◌, ◌≢◌, ℕ, ◌<◌, Bool, true, false, eqb, ltb, ◌||◌, List, [], ◌∷◌, ◌++◌, length, length-append, get_or, map, Some, refl, ap}
+use Rattle.std.proofs.Common.{arith, All}
 use Rattle.std.specs.List.{list_any, position, position_or_len}
 use Rattle.std.proofs.Math.Seq.{get_or-append_seam}
 use Rattle.std.proofs.lemmas.List.{get_or_append_left, get_or-map, length-map}
@@ -13,7 +14,8 @@ at_seam P done rest x all =
     let here = all (length done) x (omega (arith, length-append done (x ∷ rest))) in
     rw (get_or-append_seam done x rest x) at here
 
-pub position_is : {X : Type 0} (p : X → Bool) (xs : List X) (i : ℕ) (d : X) → i < length xs → p (get_or xs i d) ≡ true → ((k : ℕ) → k < i → p (get_or xs k d) ≡ false) → position p xs ≡ Some i
+pub position_is : {X : Type 0} (p : X → Bool) (xs : List X) (i : ℕ) (d : X) → i < length xs → p (get_or xs i d) ≡ true
+    → ((k : ℕ) → k < i → p (get_or xs k d) ≡ false) → position p xs ≡ Some i
 position_is p xs i d lt here before =
     let at : position_or_len p xs ≡ i = position_or_len_is p xs i d (omega arith) before (λ _. here) in
     let is : ltb i (length xs) ≡ true = grind arith in
@@ -27,10 +29,13 @@ differ m n ne = grind arith
 
 -- A name is found at its position.
 pub name_found : (names : List ℕ) (at : ℕ) → AreApart names → at < length names → position (λ m. eqb m (get_or names at 0)) names ≡ Some at
-name_found names at apart lt = position_is (λ m. eqb m (get_or names at 0)) names at 0 lt (same (get_or names at 0)) (λ k less. differ (get_or names k 0) (get_or names at 0) (apart k at 0 less lt))
+name_found names at apart lt =
+    position_is (λ m. eqb m (get_or names at 0)) names at 0 lt (same (get_or names at 0))
+    (λ k less. differ (get_or names k 0) (get_or names at 0) (apart k at 0 less lt))
 
 -- The same of things that have names.
-pub thing_found : {X : Type 0} (name : X → ℕ) (xs : List X) (at : ℕ) → AreApart (map name xs) → at < length xs → position (λ x. eqb (name x) (get_or (map name xs) at 0)) xs ≡ Some at
+pub thing_found : {X : Type 0} (name : X → ℕ) (xs : List X) (at : ℕ) → AreApart (map name xs) → at < length xs
+    → position (λ x. eqb (name x) (get_or (map name xs) at 0)) xs ≡ Some at
 thing_found name [] at apart lt = absurd (omega arith)
 thing_found name (y ∷ ys) at apart lt =
     let xs = y ∷ ys in

@@ -1,5 +1,6 @@
 -- The deciding prefix ends with 0A where bytes follow it, and no shorter prefix decides.
-use Rattle.std.proofs.Common.{◌≡◌, ℕ, suc, zero, ◌+◌, ◌-◌, ◌<◌, ◌≤◌, Bool, true, false, eqb, List, [], ◌∷◌, ◌++◌, length, length-append, length-take, take, Result, Ok, Err, refl, sym, ap, ◌∙◌, append_assoc, ◌⊎◌, inl, inr, arith}
+use Rattle.std.proofs.Common.{◌≡◌, ℕ, suc, zero, ◌+◌, ◌-◌, ◌<◌, ◌≤◌, Bool, true, false, eqb, List, [], ◌∷◌, ◌++◌, length, length-append, length-take, take}
+use Rattle.std.proofs.Common.{Result, Ok, Err, refl, sym, ap, ◌∙◌, append_assoc, ◌⊎◌, inl, inr, arith}
 use Rattle.std.specs.Str.Lines.{strip_carriage_return}
 use Rattle.std.proofs.lemmas.Bool.{cases_lt}
 use Rattle.std.proofs.lemmas.List.{take-take, take_all, take-append-le}
@@ -22,11 +23,13 @@ abbrev Ended : List ℕ → Type 0
 Ended xs = (s : State) → decide s (words_at 10 xs) < length xs → (front : List ℕ) × (take (decide s (words_at 10 xs)) xs ≡ front ++ 10 ∷ [])
 
 -- the bytes that decide after a line, given with what it leaves
-ended_after : (line more : List ℕ) (r : Result State Why) → Ended more → (length line + 1) + after_len r (λ t. decide t (words_at 10 more)) < length (line ++ 10 ∷ more)
+ended_after : (line more : List ℕ) (r : Result State Why) → Ended more
+    → (length line + 1) + after_len r (λ t. decide t (words_at 10 more)) < length (line ++ 10 ∷ more)
     → (front : List ℕ) × (line ++ 10 ∷ take (after_len r (λ t. decide t (words_at 10 more))) more ≡ front ++ 10 ∷ [])
 ended_after line more (Err why) rest lt = (line, refl)
 ended_after line more (Ok t) rest lt = by_case (is_done t.section) refl where
-  by_case : (d : Bool) → is_done t.section ≡ d → (front : List ℕ) × (line ++ 10 ∷ take (after_len (Ok t) (λ u. decide u (words_at 10 more))) more ≡ front ++ 10 ∷ [])
+  by_case : (d : Bool) → is_done t.section ≡ d
+      → (front : List ℕ) × (line ++ 10 ∷ take (after_len (Ok t) (λ u. decide u (words_at 10 more))) more ≡ front ++ 10 ∷ [])
   by_case true e = rw e (line, refl)
   by_case false e =
       let small : (length line + 1) + decide t (words_at 10 more) < length (line ++ 10 ∷ more) = rw e at lt in
@@ -35,11 +38,15 @@ ended_after line more (Ok t) rest lt = by_case (is_done t.section) refl where
 
 cut_ended : (xs : List ℕ) (k : Cut xs) → Ended k.more → Ended xs
 cut_ended xs k rest s lt =
-    let d : decide s (words_at 10 xs) ≡ (length k.line + 1) + after_len (line_of s (strip_carriage_return k.line)) (λ t. decide t (words_at 10 k.more)) = ap (λ (ys : List ℕ). decide s (words_at 10 ys)) k.is ∙ decide_ends s k.line k.more k.unbroken in
-    let small : (length k.line + 1) + after_len (line_of s (strip_carriage_return k.line)) (λ t. decide t (words_at 10 k.more)) < length (k.line ++ 10 ∷ k.more) = omega (arith, lt, d, ap length k.is) in
+    let d : decide s (words_at 10 xs) ≡ (length k.line + 1) + after_len (line_of s (strip_carriage_return k.line)) (λ t. decide t (words_at 10 k.more)) =
+    ap (λ (ys : List ℕ). decide s (words_at 10 ys)) k.is ∙ decide_ends s k.line k.more k.unbroken in
+    let small : (length k.line + 1) + after_len (line_of s (strip_carriage_return k.line)) (λ t. decide t (words_at 10 k.more)) < length
+    (k.line ++ 10 ∷ k.more) = omega (arith, lt, d, ap length k.is) in
     let e = ended_after k.line k.more (line_of s (strip_carriage_return k.line)) rest small in (
       e.0,
-      ap (λ (m : ℕ). take m xs) d ∙ ap (λ (ys : List ℕ). take ((length k.line + 1) + after_len (line_of s (strip_carriage_return k.line)) (λ t. decide t (words_at 10 k.more))) ys) k.is
+      ap (λ (m : ℕ). take m xs) d
+          ∙ ap (λ (ys : List ℕ). take
+          ((length k.line + 1) + after_len (line_of s (strip_carriage_return k.line)) (λ t. decide t (words_at 10 k.more))) ys) k.is
           ∙ take_past k.line k.more _ ∙ e.1,
     )
 
@@ -65,7 +72,8 @@ within s line n next unbroken le =
     let k = one_more s (take n line) next (unbroken_take n line unbroken) (eqb next 10) refl in
     omega (arith, k, length-take n line)
 
-open_after : (line more : List ℕ) (r : Result State Why) (e next : ℕ) → Open more → e < after_len r (λ t. decide t (words_at 10 more)) → e < after_len r (λ t. decide t (words_at 10 (take e more ++ next ∷ [])))
+open_after : (line more : List ℕ) (r : Result State Why) (e next : ℕ) → Open more → e < after_len r (λ t. decide t (words_at 10 more))
+    → e < after_len r (λ t. decide t (words_at 10 (take e more ++ next ∷ [])))
 open_after line more (Err why) e next rest lt = absurd (omega (arith, lt))
 open_after line more (Ok t) e next rest lt = by_case (is_done t.section) refl where
   by_case : (d : Bool) → is_done t.section ≡ d → e < after_len (Ok t) (λ u. decide u (words_at 10 (take e more ++ next ∷ [])))
@@ -80,9 +88,12 @@ cut_open xs k rest s n next lt = by_place (cases_lt n (length k.line + 1)) where
       rw front (within s k.line n next k.unbroken (omega arith))
   by_place (inr past) =
       let n_is : n ≡ (length k.line + 1) + (n - (length k.line + 1)) = omega arith in
-      let d : decide s (words_at 10 xs) ≡ (length k.line + 1) + after_len (line_of s (strip_carriage_return k.line)) (λ t. decide t (words_at 10 k.more)) = ap (λ (ys : List ℕ). decide s (words_at 10 ys)) k.is ∙ decide_ends s k.line k.more k.unbroken in
-      let front : take n xs ≡ k.line ++ 10 ∷ take (n - (length k.line + 1)) k.more = ap (λ (m : ℕ). take m xs) n_is ∙ ap (take ((length k.line + 1) + (n - (length k.line + 1)))) k.is ∙ take_past k.line k.more (n - (length k.line + 1)) in
-      let all : take n xs ++ next ∷ [] ≡ k.line ++ 10 ∷ (take (n - (length k.line + 1)) k.more ++ next ∷ []) = ap (λ (ys : List ℕ). ys ++ next ∷ []) front ∙ append_assoc k.line (10 ∷ take (n - (length k.line + 1)) k.more) (next ∷ []) in
+      let d : decide s (words_at 10 xs) ≡ (length k.line + 1) + after_len (line_of s (strip_carriage_return k.line)) (λ t. decide t (words_at 10 k.more)) =
+      ap (λ (ys : List ℕ). decide s (words_at 10 ys)) k.is ∙ decide_ends s k.line k.more k.unbroken in
+      let front : take n xs ≡ k.line ++ 10 ∷ take (n - (length k.line + 1)) k.more = ap (λ (m : ℕ). take m xs) n_is
+      ∙ ap (take ((length k.line + 1) + (n - (length k.line + 1)))) k.is ∙ take_past k.line k.more (n - (length k.line + 1)) in
+      let all : take n xs ++ next ∷ [] ≡ k.line ++ 10 ∷ (take (n - (length k.line + 1)) k.more ++ next ∷ []) = ap (λ (ys : List ℕ). ys ++ next ∷ []) front
+      ∙ append_assoc k.line (10 ∷ take (n - (length k.line + 1)) k.more) (next ∷ []) in
       let f = ap (λ (ys : List ℕ). decide s (words_at 10 ys)) all ∙ decide_ends s k.line (take (n - (length k.line + 1)) k.more ++ next ∷ []) k.unbroken in
       let g = open_after k.line k.more (line_of s (strip_carriage_return k.line)) (n - (length k.line + 1)) next rest (omega (arith, lt, d)) in
       omega (arith, f, g)
@@ -126,14 +137,18 @@ pub shortest : (input : List ℕ) → IsShortest input
 unfolding deciding_len
 shortest input = record {
   ended = λ lt.
-      let k = ends_in_line (length (take MOST_TEXT_BYTES input)) (take MOST_TEXT_BYTES input) (omega arith) start lt in
-      (k.0, sym (take-take (decide start (words_at 10 (take MOST_TEXT_BYTES input))) MOST_TEXT_BYTES input (omega (arith, lt, length-take MOST_TEXT_BYTES input))) ∙ k.1);
+      let k = ends_in_line (length (take MOST_TEXT_BYTES input)) (take MOST_TEXT_BYTES input) (omega arith) start lt in (
+        k.0,
+        sym (take-take (decide start (words_at 10 (take MOST_TEXT_BYTES input))) MOST_TEXT_BYTES input
+            (omega (arith, lt, length-take MOST_TEXT_BYTES input))) ∙ k.1,
+      );
   none_before = λ n lt next.
       let most = most_decide (length (take MOST_TEXT_BYTES input)) (take MOST_TEXT_BYTES input) (omega arith) start in
       let small : n < MOST_TEXT_BYTES = omega (arith, lt, most, length-take MOST_TEXT_BYTES input) in
       let k = open_before (length (take MOST_TEXT_BYTES input)) (take MOST_TEXT_BYTES input) (omega arith) start n next lt in
       let front : take n (take MOST_TEXT_BYTES input) ≡ take n input = take-take n MOST_TEXT_BYTES input (omega arith) in
-      let whole : take MOST_TEXT_BYTES (take n input ++ next ∷ []) ≡ take n input ++ next ∷ [] = take_all MOST_TEXT_BYTES (take n input ++ next ∷ []) (omega (arith, small, length-append (take n input) (next ∷ []), length-take n input)) in
+      let whole : take MOST_TEXT_BYTES (take n input ++ next ∷ []) ≡ take n input ++ next ∷ [] =
+      take_all MOST_TEXT_BYTES (take n input ++ next ∷ []) (omega (arith, small, length-append (take n input) (next ∷ []), length-take n input)) in
       let same = ap (λ (ys : List ℕ). decide start (words_at 10 ys)) (whole ∙ ap (λ (ys : List ℕ). ys ++ next ∷ []) (sym front)) in
       omega (arith, k, same);
 }

@@ -1,5 +1,6 @@
 -- Where a text is unfinished or too long, all its bytes decide, and its faulty line is the last.
-use Rattle.std.proofs.Common.{◌≡◌, ℕ, suc, zero, ◌+◌, ◌≤◌, Bool, true, false, eqb, leb, List, [], ◌∷◌, length, length-append, length-take, take, Result, Ok, Err, refl, sym, ap, subst, ◌∙◌, ◌⊎◌, inl, inr, arith}
+use Rattle.std.proofs.Common.{◌≡◌, ℕ, suc, zero, ◌+◌, ◌≤◌, Bool, true, false, eqb, leb, List, [], ◌∷◌, length, length-append, length-take, take, Result, Ok}
+use Rattle.std.proofs.Common.{Err, refl, sym, ap, subst, ◌∙◌, ◌⊎◌, inl, inr, arith}
 use Rattle.std.specs.Prelude.{if◌then◌else◌}
 use Rattle.std.specs.List.{count_by}
 use Rattle.std.specs.Str.Lines.{strip_carriage_return}
@@ -64,7 +65,8 @@ line_then : (line more : List ℕ) (b : Bool) (n m : ℕ) (why : Why) (r : Resul
     → (m + 1 ≡ (n + 1) + length (words_at 10 more)) × (after_len r (λ t. decide t (words_at 10 more)) ≡ length more)
 line_then line more b n m why (Err e) un of rest h = absurd (not_of_a_line why un (subst IsOfALine (ap why_in h) of.why))
 line_then line more b n m why (Ok t) un of rest h = by_case (is_done t.section) refl where
-  by_case : (d : Bool) → is_done t.section ≡ d → (m + 1 ≡ (n + 1) + length (words_at 10 more)) × (after_len (Ok t) (λ u. decide u (words_at 10 more)) ≡ length more)
+  by_case : (d : Bool) → is_done t.section ≡ d
+      → (m + 1 ≡ (n + 1) + length (words_at 10 more)) × (after_len (Ok t) (λ u. decide u (words_at 10 more)) ≡ length more)
   by_case true e = let said = rw e at h in not_said t.parts (m, why) said
   by_case false e =
       let said : lines_say b (n + 1) t (words_at 10 more) ≡ Err (m, why) = rw e at h in

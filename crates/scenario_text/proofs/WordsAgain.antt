@@ -1,5 +1,6 @@
 -- The words of a line are split and read again.
-use Rattle.std.proofs.Common.{◌≡◌, ℕ, suc, ◌-◌, ◌<◌, ◌≤◌, ◌^◌, Bool, true, false, eqb, List, [], ◌∷◌, ◌++◌, length, get_or, map, Ok, refl, ap, ◌∙◌, arith, All, lit<}
+use Rattle.std.proofs.Common.{◌≡◌, ℕ, suc, ◌-◌, ◌<◌, ◌≤◌, ◌^◌, Bool, true, false, eqb, List, [], ◌∷◌, ◌++◌, length, get_or, map, Ok, refl, ap, ◌∙◌, arith}
+use Rattle.std.proofs.Common.{All, lit<}
 use Rattle.std.specs.Prelude.{nat_lt}
 use Rattle.std.specs.List.{list_all}
 use Rattle.std.specs.Fmt.{decimal}
@@ -79,7 +80,8 @@ plain_unbroken l ok = λ i d lt. not_end _ (AllPass-from_list_all (λ b. nat_lt 
 pub plain_bare : (l : List ℕ) → is_plain l ≡ true → strip_carriage_return l ≡ l
 plain_bare [] ok = refl
 plain_bare (x ∷ xs) ok =
-    let last : eqb (get_or (x ∷ xs) (length (x ∷ xs) - 1) 0) 13 ≡ false = not_return _ (AllPass-from_list_all (λ b. nat_lt 31 b) (x ∷ xs) ok (length (x ∷ xs) - 1) 0 (omega arith)) in
+    let last : eqb (get_or (x ∷ xs) (length (x ∷ xs) - 1) 0) 13 ≡ false =
+    not_return _ (AllPass-from_list_all (λ b. nat_lt 31 b) (x ∷ xs) ok (length (x ∷ xs) - 1) 0 (omega arith)) in
     rw last refl
 
 -- ---- numbers and keys
@@ -90,11 +92,21 @@ digit_above c range = lt-ltb 32 c (omega (arith, range.0))
 pub number_word_is : (n : ℕ) → n < 2 ^ 64 → is_word (decimal n) ≡ true
 number_word_is n small =
     let num = decimal_is_IsNumeral n small in
-    list_all-from_AllPass (λ b. nat_lt 32 b) (decimal n) (All-from_get_or (λ b. nat_lt 32 b ≡ true) (decimal n) 0 (λ i lt. digit_above (get_or (decimal n) i 0) (digit_at (decimal n) i num.0.1 lt)))
+    list_all-from_AllPass (λ b. nat_lt 32 b) (decimal n)
+    (All-from_get_or (λ b. nat_lt 32 b ≡ true) (decimal n) 0 (λ i lt. digit_above (get_or (decimal n) i 0) (digit_at (decimal n) i num.0.1 lt)))
 
-four_words : (a b c d : List ℕ) → is_word a ≡ true → is_word b ≡ true → is_word c ≡ true → is_word d ≡ true → is_word (a ++ 46 ∷ (b ++ 46 ∷ (c ++ 46 ∷ d))) ≡ true
+four_words : (a b c d : List ℕ) → is_word a ≡ true → is_word b ≡ true → is_word c ≡ true → is_word d ≡ true
+    → is_word (a ++ 46 ∷ (b ++ 46 ∷ (c ++ 46 ∷ d))) ≡ true
 four_words a b c d p q r s =
-    rw (list_all-append (λ x. nat_lt 32 x) a (46 ∷ (b ++ 46 ∷ (c ++ 46 ∷ d))), p, list_all-append (λ x. nat_lt 32 x) b (46 ∷ (c ++ 46 ∷ d)), q, list_all-append (λ x. nat_lt 32 x) c (46 ∷ d), r, s) refl
+    rw (
+      list_all-append (λ x. nat_lt 32 x) a (46 ∷ (b ++ 46 ∷ (c ++ 46 ∷ d))),
+      p,
+      list_all-append (λ x. nat_lt 32 x) b (46 ∷ (c ++ 46 ∷ d)),
+      q,
+      list_all-append (λ x. nat_lt 32 x) c (46 ∷ d),
+      r,
+      s,
+    ) refl
 
 pub address_word_is : (ns : List ℕ) → IsAddress ns → is_word (dotted ns) ≡ true
 address_word_is [] h = absurd (omega (arith, h.four))
@@ -111,11 +123,21 @@ address_word_is (a ∷ b ∷ c ∷ d ∷ []) h =
     four_words (decimal a) (decimal b) (decimal c) (decimal d) (byte a ha) (byte b hb) (byte c hc) (byte d hd)
 
 pub key_words_are : (k : FlowKey) (ws : Words) → Fits k → AreWords ws → AreWords (key_parts k ws)
-key_words_are k ws h ok = (address_word_is k.src h.src, (address_word_is k.dst h.dst, (number_word_is k.proto (omega (arith, h.proto)), (number_word_is k.sport (omega (arith, h.sport)), (number_word_is k.dport (omega (arith, h.dport)), ok)))))
+key_words_are k ws h ok = (
+  address_word_is k.src h.src,
+  (
+    address_word_is k.dst h.dst,
+    (
+      number_word_is k.proto (omega (arith, h.proto)),
+      (number_word_is k.sport (omega (arith, h.sport)), (number_word_is k.dport (omega (arith, h.dport)), ok)),
+    ),
+  ),
+)
 
 pub numbers_are_words : (ns : List ℕ) → All (λ d. d < 4294967296) ns → AreWords (map decimal ns)
 numbers_are_words [] small = tt
-numbers_are_words (d ∷ ds) small = (number_word_is d (let lt = small 0 0 (omega arith) in omega arith), numbers_are_words ds (λ i x lt. small (suc i) x (omega arith)))
+numbers_are_words (d ∷ ds) small =
+    (number_word_is d (let lt = small 0 0 (omega arith) in omega arith), numbers_are_words ds (λ i x lt. small (suc i) x (omega arith)))
 
 pub number_read : (most n : ℕ) (ws : Words) → most < 2 ^ 64 → n ≤ most → number 0 most (decimal n ∷ ws) ≡ Ok (n, ws)
 unfolding number

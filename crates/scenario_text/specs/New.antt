@@ -13,7 +13,8 @@ use Rattle.scenario_text.specs.Text.{reading}
 
 -- These parts.
 abbrev pub parts_of : Shape → Pick → List HostLine → List ℕ → List Flow → List Step → List Ask → Scenario
-parts_of shape pick hosts switches flows steps asks = record { shape = shape; pick = pick; hosts = hosts; switches = switches; flows = flows; steps = steps; asks = asks }
+parts_of shape pick hosts switches flows steps asks =
+    record { shape = shape; pick = pick; hosts = hosts; switches = switches; flows = flows; steps = steps; asks = asks }
 
 -- A position in the parts is out of range, or their text is no scenario text.
 abbrev pub IsUnsaid : Scenario → Type 0

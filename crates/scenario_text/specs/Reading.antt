@@ -1,5 +1,6 @@
 -- A reader in the midst of a text.
-use Rattle.std.specs.Prelude.{◌≡◌, ℕ, ◌+◌, ◌≤◌, ◌-◌, ◌==◌, Bool, true, false, List, ◌++◌, length, take, drop, slice_index, ◌<◌, All, Option, Some, Result, Ok, Err, nat_le}
+use Rattle.std.specs.Prelude.{◌≡◌, ℕ, ◌+◌, ◌≤◌, ◌-◌, ◌==◌, Bool, true, false, List, ◌++◌, length, take, drop, slice_index, ◌<◌, All, Option, Some, Result}
+use Rattle.std.specs.Prelude.{Ok, Err, nat_le}
 use Rattle.flow_key.specs.Words.{words_at}
 use Rattle.lg_model.specs.declared.limits.TheConstants.{MOST_TEXT_BYTES}
 use Rattle.lg_model.specs.Scenario.{Scenario}
@@ -45,7 +46,8 @@ needs r more = decide (view r.draft) (words_at 10 (r.pending.items ++ more))
 -- What feeding took of the deciding bytes.
 abbrev pub Spent : Reader → List ℕ → Reader → Result Bool ScenarioFault → Type 0
 Spent old piece new (Ok true) = (more : List ℕ) → needs old (piece ++ more) ≤ length old.pending.items + length piece
-Spent old piece new (Ok false) = (more : List ℕ) → needs old (piece ++ more) + length new.pending.items ≡ (length old.pending.items + length piece) + needs new more
+Spent old piece new (Ok false) = (more : List ℕ)
+    → needs old (piece ++ more) + length new.pending.items ≡ (length old.pending.items + length piece) + needs new more
 Spent old piece new (Err (faults.Bad line why)) = (more : List ℕ) → needs old (piece ++ more) ≤ length old.pending.items + length piece
 Spent old piece new (Err faults.ReadFault) = ⊥
 Spent old piece new (Err faults.Memory) = Unit {0}

@@ -19,7 +19,8 @@ with_head lines = text (codes "guardian 1" ∷ codes "shape 2 1 ports" ∷ codes
 
 -- The text of the first scenario, with this ask.
 abbrev pub first_scenario_text : List ℕ → List ℕ
-first_scenario_text ask = with_head (codes "flow 1 10.0.0.1 10.0.0.2 6 2 1 host 1 path 1" ∷ codes "packet 1 1500 20" ∷ codes "end 1" ∷ codes "packet 1 100 5" ∷ ask ∷ codes "done" ∷ [])
+first_scenario_text ask =
+    with_head (codes "flow 1 10.0.0.1 10.0.0.2 6 2 1 host 1 path 1" ∷ codes "packet 1 1500 20" ∷ codes "end 1" ∷ codes "packet 1 100 5" ∷ ask ∷ codes "done" ∷ [])
 
 -- The first scenario.
 abbrev pub first_scenario : Scenario
@@ -28,7 +29,12 @@ first_scenario = record {
   pick = Turns;
   hosts = record { name = 1; letters = [] } ∷ [];
   switches = 1 ∷ [];
-  flows = record { name = 1; key = record { src = 10 ∷ 0 ∷ 0 ∷ 1 ∷ []; dst = 10 ∷ 0 ∷ 0 ∷ 2 ∷ []; proto = 6; sport = 2; dport = 1 }; host_at = 0; path = 0 ∷ [] } ∷ [];
+  flows = record {
+    name = 1;
+    key = record { src = 10 ∷ 0 ∷ 0 ∷ 1 ∷ []; dst = 10 ∷ 0 ∷ 0 ∷ 2 ∷ []; proto = 6; sport = 2; dport = 1 };
+    host_at = 0;
+    path = 0 ∷ [];
+  } ∷ [];
   steps = Packet 0 1500 (20 ∷ []) 1 Straight ∷ End 0 ∷ Packet 0 100 (5 ∷ []) 1 Straight ∷ [];
   asks = record { flow_at = 0; switch = 1; epoch = 0 } ∷ [];
 }

@@ -22,20 +22,25 @@ loop-taken-init g c = record {
 
 pub returns-then-n-eq0-clause-says : goal.returns-then-n-eq0-clause-says
 returns-then-n-eq0-clause-says g c =
-    says_end (g.S.Source.left c.args.source.now) (g.S.Source.left c.loop-taken.source) (g.S.Source.left c.next_piece.new.source) c.loop-taken.taken c.in_ok-n.n c.min-want.result c.loop-taken.reader c.next_piece.new.buf c.end.result
+    says_end (g.S.Source.left c.args.source.now) (g.S.Source.left c.loop-taken.source)
+    (g.S.Source.left c.next_piece.new.source) c.loop-taken.taken c.in_ok-n.n c.min-want.result c.loop-taken.reader c.next_piece.new.buf c.end.result
     c.loop-taken-test.true c.if-n-eq0.true (omega arith) c.loop-taken.invariant.says c.in_ok-n.ensures.bytes c.end.ensures.says
 
 pub returns-in-Ok-true-clause-says : goal.returns-in-Ok-true-clause-says
 returns-in-Ok-true-clause-says g c =
     let le : c.loop-taken.taken + c.in_ok-n.n ≤ MOST_TEXT_BYTES = omega (arith, c.in_ok-n.ensures.count) in
     let fed = rw c.in-Ok-true.field-0-test at c.in-Ok-true.ensures.fed in
-    says_done (g.S.Source.left c.args.source.now) (g.S.Source.left c.loop-taken.source) (g.S.Source.left c.next_piece.new.source) c.loop-taken.taken c.in_ok-n.n c.min-want.result c.loop-taken.reader c.feed.new.self c.next_piece.new.buf c.scenario.result
+    says_done (g.S.Source.left c.args.source.now) (g.S.Source.left c.loop-taken.source)
+    (g.S.Source.left c.next_piece.new.source) c.loop-taken.taken c.in_ok-n.n c.min-want.result c.loop-taken.reader c.feed.new.self c.next_piece.new.buf
+        c.scenario.result
     le c.loop-taken.invariant.says c.in_ok-n.ensures.bytes fed c.scenario.ensures
 
 pub returns-in-Err-clause-says : goal.returns-in-Err-clause-says
 returns-in-Err-clause-says g c =
     let le : c.loop-taken.taken + c.in_ok-n.n ≤ MOST_TEXT_BYTES = omega (arith, c.in_ok-n.ensures.count) in
-    says_bad (g.S.Source.left c.args.source.now) (g.S.Source.left c.loop-taken.source) (g.S.Source.left c.next_piece.new.source) c.loop-taken.taken c.in_ok-n.n c.min-want.result c.loop-taken.reader c.feed.new.self c.next_piece.new.buf c.in-Err.e
+    says_bad (g.S.Source.left c.args.source.now) (g.S.Source.left c.loop-taken.source)
+    (g.S.Source.left c.next_piece.new.source) c.loop-taken.taken c.in_ok-n.n c.min-want.result c.loop-taken.reader c.feed.new.self c.next_piece.new.buf
+        c.in-Err.e
     le c.loop-taken.invariant.says c.in_ok-n.ensures.bytes c.in-Err.ensures.fed
 
 pub loop-taken-preserved : goal.loop-taken-preserved
@@ -45,9 +50,11 @@ loop-taken-preserved g c =
     let spent = rw c.in-Ok-false.field-0-test at c.in-Ok-false.ensures.spent in
     let printed_len = rw c.in-Ok-false.field-0-test at c.in-Ok-false.ensures.printed_len in
     record {
-      says = says_more (g.S.Source.left c.args.source.now) (g.S.Source.left c.loop-taken.source) (g.S.Source.left c.next_piece.new.source) c.loop-taken.taken c.in_ok-n.n c.min-want.result c.loop-taken.reader c.feed.new.self c.next_piece.new.buf
+      says = says_more (g.S.Source.left c.args.source.now) (g.S.Source.left c.loop-taken.source)
+          (g.S.Source.left c.next_piece.new.source) c.loop-taken.taken c.in_ok-n.n c.min-want.result c.loop-taken.reader c.feed.new.self c.next_piece.new.buf
           le c.loop-taken.invariant.says c.in_ok-n.ensures.bytes fed;
-      needs = needs_more (g.S.Source.left c.args.source.now) (g.S.Source.left c.loop-taken.source) (g.S.Source.left c.next_piece.new.source) c.loop-taken.taken c.in_ok-n.n c.min-want.result c.loop-taken.reader c.feed.new.self c.next_piece.new.buf
+      needs = needs_more (g.S.Source.left c.args.source.now) (g.S.Source.left c.loop-taken.source)
+          (g.S.Source.left c.next_piece.new.source) c.loop-taken.taken c.in_ok-n.n c.min-want.result c.loop-taken.reader c.feed.new.self c.next_piece.new.buf
           le c.loop-taken.invariant.needs c.in_ok-n.ensures.bytes spent;
       reader = c.in-Ok-false.ensures.reader;
       printed_len = omega (arith, printed_len, c.loop-taken.invariant.printed_len, length-take c.in_ok-n.n c.next_piece.new.buf);
@@ -58,20 +65,25 @@ loop-taken-preserved g c =
 
 pub returns-then-n-eq0-clause-took : goal.returns-then-n-eq0-clause-took
 returns-then-n-eq0-clause-took g c =
-    took_end (g.S.Source.left c.args.source.now) (g.S.Source.left c.loop-taken.source) (g.S.Source.left c.next_piece.new.source) c.loop-taken.taken c.in_ok-n.n c.min-want.result c.loop-taken.reader c.next_piece.new.buf c.end.result
+    took_end (g.S.Source.left c.args.source.now) (g.S.Source.left c.loop-taken.source)
+    (g.S.Source.left c.next_piece.new.source) c.loop-taken.taken c.in_ok-n.n c.min-want.result c.loop-taken.reader c.next_piece.new.buf c.end.result
     c.end.ensures.no_fault c.if-n-eq0.true (omega arith) c.loop-taken.invariant.reader.unbroken c.loop-taken.invariant.needs c.in_ok-n.ensures.bytes
 
 pub returns-in-Ok-true-clause-took : goal.returns-in-Ok-true-clause-took
 returns-in-Ok-true-clause-took g c =
     let le : c.loop-taken.taken + c.in_ok-n.n ≤ MOST_TEXT_BYTES = omega (arith, c.in_ok-n.ensures.count) in
     let spent = rw c.in-Ok-true.field-0-test at c.in-Ok-true.ensures.spent in
-    took_done (g.S.Source.left c.args.source.now) (g.S.Source.left c.loop-taken.source) (g.S.Source.left c.next_piece.new.source) c.loop-taken.taken c.in_ok-n.n c.min-want.result c.loop-taken.reader c.feed.new.self c.next_piece.new.buf c.scenario.result
+    took_done (g.S.Source.left c.args.source.now) (g.S.Source.left c.loop-taken.source)
+    (g.S.Source.left c.next_piece.new.source) c.loop-taken.taken c.in_ok-n.n c.min-want.result c.loop-taken.reader c.feed.new.self c.next_piece.new.buf
+        c.scenario.result
     le c.loop-taken.invariant.needs c.in_ok-n.ensures.bytes spent
 
 pub returns-in-Err-clause-took : goal.returns-in-Err-clause-took
 returns-in-Err-clause-took g c =
     let le : c.loop-taken.taken + c.in_ok-n.n ≤ MOST_TEXT_BYTES = omega (arith, c.in_ok-n.ensures.count) in
-    took_bad (g.S.Source.left c.args.source.now) (g.S.Source.left c.loop-taken.source) (g.S.Source.left c.next_piece.new.source) c.loop-taken.taken c.in_ok-n.n c.min-want.result c.loop-taken.reader c.feed.new.self c.next_piece.new.buf c.in-Err.e
+    took_bad (g.S.Source.left c.args.source.now) (g.S.Source.left c.loop-taken.source)
+    (g.S.Source.left c.next_piece.new.source) c.loop-taken.taken c.in_ok-n.n c.min-want.result c.loop-taken.reader c.feed.new.self c.next_piece.new.buf
+        c.in-Err.e
     le c.loop-taken.invariant.needs c.in_ok-n.ensures.bytes c.in-Err.ensures.spent
 
 pub returns-clause-took : goal.returns-clause-took
@@ -82,5 +94,6 @@ returns-clause-took g c =
 pub returns-in_err-n-clause-took : goal.returns-in_err-n-clause-took
 returns-in_err-n-clause-took g c =
     let p = err_from_is_err_and c.from_residual.result c.from_residual.ensures.1 in
-    rw (p.1, p.2) (took_fault (g.S.Source.left c.args.source.now) (g.S.Source.left c.loop-taken.source) (g.S.Source.left c.next_piece.new.source) c.loop-taken.taken c.loop-taken.reader c.in_err-n.field-0.0
+    rw (p.1, p.2) (took_fault (g.S.Source.left c.args.source.now) (g.S.Source.left c.loop-taken.source)
+    (g.S.Source.left c.next_piece.new.source) c.loop-taken.taken c.loop-taken.reader c.in_err-n.field-0.0
     c.in_err-n.ensures.fault.0 c.loop-taken-test.true c.loop-taken.invariant.reader.unbroken c.loop-taken.invariant.needs c.in_err-n.ensures.kept)

@@ -8,7 +8,12 @@ pub returns-clause-printed_len : goal.returns-clause-printed_len
 returns-clause-printed_len c =
     omega (
       arith,
-      ask_weighs (view c.args.self.now) c.push.new.self.items (record { flow_at = c.in_ok-flow_at.flow_at; switch = c.in_ok-switch.switch; epoch = c.in_ok-epoch.epoch }) c.requires.section c.in_ok-push.ensures.items,
+      ask_weighs (view c.args.self.now) c.push.new.self.items
+          (record {
+            flow_at = c.in_ok-flow_at.flow_at;
+            switch = c.in_ok-switch.switch;
+            epoch = c.in_ok-epoch.epoch;
+          }) c.requires.section c.in_ok-push.ensures.items,
       ap (λ (n : ℕ). length (decimal n)) c.in_ok-flow_at.ensures.named,
       c.in_ok-flow.ensures.taken,
       c.in_ok-switch.ensures.taken,

@@ -11,7 +11,8 @@ use Rattle.scenario_lines.proofs.draft.Draft.flow.Goals as goal
 pub returns-clause-fits : goal.returns-clause-fits
 returns-clause-fits c =
     let flow : Flow = record { name = c.in_ok-name.name; key = c.in_ok-key.key; host_at = c.in_ok-host_at.host_at; path = c.new-path.result } in
-    let at : c.in_ok-host_at.host_at < length c.args.self.now.parts.hosts.items = omega (arith, c.in_ok-host_at.ensures.bound, ap length c.deref.ensures.value) in
+    let at : c.in_ok-host_at.host_at < length c.args.self.now.parts.hosts.items =
+    omega (arith, c.in_ok-host_at.ensures.bound, ap length c.deref.ensures.value) in
     let hops = rw c.deref-2.ensures.value at c.in_ok-hops.ensures.bound in
     let fits : IsFlow (length c.args.self.now.parts.hosts.items) (length c.args.self.now.parts.switches.items) flow = record {
       name = omega (arith, c.in_ok-name.ensures.bound);

@@ -9,8 +9,13 @@ use Rattle.scenario_lines.proofs.draft.Draft.host.Goals as goal
 pub returns-clause-fits : goal.returns-clause-fits
 returns-clause-fits c =
     let host : HostLine = record { name = c.in_ok-name.name; letters = c.new-letters.result } in
-    let line : IsHost host = record { name = omega (arith, c.in_ok-name.ensures.bound); few_letters = omega (arith, ap length c.new-letters.ensures, ap length c.new.ensures.items) } in
-    host_more (view c.args.self.now) c.push.new.self.items host c.requires c.in_ok-push.ensures.items (omega (arith, c.in_ok-room_for.ensures.fits, c.len.ensures)) line (rw c.deref.ensures.value at c.in_ok-new_host.ensures.fresh)
+    let line : IsHost host =
+    record {
+      name = omega (arith, c.in_ok-name.ensures.bound);
+      few_letters = omega (arith, ap length c.new-letters.ensures, ap length c.new.ensures.items);
+    } in
+    host_more (view c.args.self.now) c.push.new.self.items host c.requires c.in_ok-push.ensures.items
+    (omega (arith, c.in_ok-room_for.ensures.fits, c.len.ensures)) line (rw c.deref.ensures.value at c.in_ok-new_host.ensures.fresh)
 
 pub returns-clause-printed_len : goal.returns-clause-printed_len
 returns-clause-printed_len c =

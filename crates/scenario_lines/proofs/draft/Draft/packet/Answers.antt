@@ -12,7 +12,8 @@ pub returns-clause-fits : goal.returns-clause-fits
 returns-clause-fits c =
     let delays = ap length c.of_few-delays.ensures ∙ c.in_ok-delays.ensures.count in
     let path = ap length c.path_of-path.ensures.value in
-    step_more (view c.args.self.now) c.push.new.self.items (Packet c.in_ok-flow_at.flow_at c.in_ok-size.size c.of_few-delays.result c.in_ok-burst.burst c.in_ok-fate.fate) c.requires.fits
+    step_more (view c.args.self.now) c.push.new.self.items
+    (Packet c.in_ok-flow_at.flow_at c.in_ok-size.size c.of_few-delays.result c.in_ok-burst.burst c.in_ok-fate.fate) c.requires.fits
     (record {
       flow = c.in_ok-flow_at.ensures.bound;
       size = omega (arith, c.in_ok-size.ensures.bound);
@@ -32,7 +33,9 @@ returns-clause-printed_len c =
     let end = size_append (burst_words c.in_ok-burst.burst) (fate_words c.in_ok-fate.fate) in
     omega (
       arith,
-      step_weighs (view c.args.self.now) c.push.new.self.items (Packet c.in_ok-flow_at.flow_at c.in_ok-size.size c.of_few-delays.result c.in_ok-burst.burst c.in_ok-fate.fate) (open_packet c.args.self.now.section c.requires.section) c.in_ok-push.ensures.items,
+      step_weighs (view c.args.self.now) c.push.new.self.items
+          (Packet c.in_ok-flow_at.flow_at c.in_ok-size.size c.of_few-delays.result c.in_ok-burst.burst c.in_ok-fate.fate)
+          (open_packet c.args.self.now.section c.requires.section) c.in_ok-push.ensures.items,
       delays,
       tail,
       end,

@@ -12,9 +12,11 @@ returns-clause-fits c =
     let shape : Shape = record { rows = c.in_ok-rows.rows; width = c.in_ok-width.width; hash = c.in_ok-hash.hash } in
     let few = rw c.from.ensures at c.in_ok-rows.ensures.bound in
     let narrow = rw c.from-2.ensures at c.in_ok-width.ensures.bound in
-    let fits : IsShape shape.rows shape.width = record { some_rows = c.in_ok-rows.ensures.least; few_rows = few; some_width = c.in_ok-width.ensures.least; few_width = narrow } in
+    let fits : IsShape shape.rows shape.width =
+    record { some_rows = c.in_ok-rows.ensures.least; few_rows = few; some_width = c.in_ok-width.ensures.least; few_width = narrow } in
     rw c.shape_of-self.ensures
-    (shaped (view c.args.self.now) shape sections.Pick c.requires.fits (before_shape c.args.self.now.section c.requires.section) fits c.in_ok-hash.ensures.bound)
+    (shaped (view c.args.self.now) shape sections.Pick c.requires.fits
+    (before_shape c.args.self.now.section c.requires.section) fits c.in_ok-hash.ensures.bound)
 
 pub returns-clause-printed_len : goal.returns-clause-printed_len
 returns-clause-printed_len c =

@@ -8,7 +8,8 @@ use Rattle.scenario_text.proofs.scenario.Scenario.new.Goals as goal
 pub returns-then-not-is_whole-clause-none : goal.returns-then-not-is_whole-clause-none
 returns-then-not-is_whole-clause-none c =
     let w = parts_of c.args.shape c.args.pick c.args.hosts.items c.args.switches.items c.args.flows.items c.args.steps.items c.args.asks.items in
-    λ positions q reads. not_from_Decides c.is_whole.result c.is_whole.ensures.whole c.if-not-is_whole.true (only_whole w q c.is_whole.ensures.ranges positions reads)
+    λ positions q reads. not_from_Decides c.is_whole.result c.is_whole.ensures.whole c.if-not-is_whole.true
+    (only_whole w q c.is_whole.ensures.ranges positions reads)
 
 pub returns-clause-said : goal.returns-clause-said
 returns-clause-said c =
