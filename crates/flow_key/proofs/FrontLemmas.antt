@@ -1,5 +1,38 @@
 -- The number that the first word of a text writes, and the words after it.
-use Rattle.std.proofs.Common.{◌≡◌, ℕ, ◌+◌, ◌<◌, ◌≤◌, ◌^◌, Bool, true, false, cond, eqb, ltb, List, [], ◌∷◌, length, get_or, take, drop, Option, Some, None, ◌&&◌, refl, sym, ap, subst, ◌∙◌, arith, lit<, inl, inr}
+use Rattle.std.proofs.Common.{
+  ◌≡◌,
+  ℕ,
+  ◌+◌,
+  ◌<◌,
+  ◌≤◌,
+  ◌^◌,
+  Bool,
+  true,
+  false,
+  cond,
+  eqb,
+  ltb,
+  List,
+  [],
+  ◌∷◌,
+  length,
+  get_or,
+  take,
+  drop,
+  Option,
+  Some,
+  None,
+  ◌&&◌,
+  refl,
+  sym,
+  ap,
+  subst,
+  ◌∙◌,
+  arith,
+  lit<,
+  inl,
+  inr,
+}
 use Rattle.std.specs.List.{position_or_len, list_all, join_with_byte}
 use Rattle.std.specs.Char.{is_ascii_digit}
 use Rattle.std.specs.Fmt.{decimal}
@@ -9,7 +42,7 @@ use Rattle.std.proofs.lemmas.List.{get_or-take, take-take, take_all, length-take
 use Rattle.std.proofs.lemmas.List.Folds.{list_all_at}
 use Rattle.std.proofs.lemmas.List.Sums.{fails_before_first, passes_at_first, prefix_len-le-length}
 use Rattle.std.proofs.lemmas.List.Splits.{length-slice_split, slice_split_first, join_with_byte-slice_split}
-use Rattle.flow_key.specs.Words.{words_at, first_word, is_number, value_to, number_to}
+use Rattle.flow_key.specs.Words.{words_at, first_word, digits_to, is_number, value_to, number_to}
 use Rattle.flow_key.specs.KeyText.{number_word}
 use Rattle.flow_key.proofs.WordLemmas.{past, too_much, just}
 use Rattle.flow_key.proofs.KeyLemmas.{some_is, number_is, number_again, unmarked, split_join}
@@ -39,33 +72,35 @@ ends_later p xs i le lt here =
 
 -- ---- the value of its digits
 
-abbrev pub worth : ℕ → List ℕ → Option ℕ
-worth most w = cond (list_all is_ascii_digit w) (value_to most w) None
+pub worth_front : (at most : ℕ) (text : List ℕ) (i n : ℕ) → i ≡ position_or_len (λ b. eqb b at) text → list_all is_ascii_digit (take i text) ≡ true →
+    n ≡ digits_value 10 (take i text) → n ≤ most → Some n ≡ digits_to most (first_word at text)
+worth_front at most text i n e all is le = subst (λ (k : ℕ). Some n ≡ digits_to most (take k text)) e (just most (take i text) n all is le)
 
-pub worth_front : (at most : ℕ) (text : List ℕ) (i n : ℕ) → i ≡ position_or_len (λ b. eqb b at) text → list_all is_ascii_digit (take i text) ≡ true → n ≡ digits_value 10 (take i text) → n ≤ most → Some n ≡ worth most (first_word at text)
-worth_front at most text i n e all is le = subst (λ (k : ℕ). Some n ≡ worth most (take k text)) e (just most (take i text) n all is le)
-
-pub no_digit : (at most : ℕ) (text : List ℕ) (i : ℕ) → i < position_or_len (λ b. eqb b at) text → is_ascii_digit (get_or text i 0) ≡ false → None ≡ worth most (first_word at text)
+pub no_digit : (at most : ℕ) (text : List ℕ) (i : ℕ) → i < position_or_len (λ b. eqb b at) text → is_ascii_digit (get_or text i 0) ≡ false →
+    None ≡ digits_to most (first_word at text)
 no_digit at most text i lt here =
     let end = position_or_len (λ b. eqb b at) text in
     let len : length (first_word at text) ≡ end = length-take-le end text (ends_by (λ b. eqb b at) text) in
     let same = get_or-take end text i 0 lt in
-    let no : list_all is_ascii_digit (first_word at text) ≡ false = list_all_at is_ascii_digit (first_word at text) i 0 (omega (arith, len)) (ap is_ascii_digit same ∙ here) in
+    let no : list_all is_ascii_digit (first_word at text) ≡ false =
+    list_all_at is_ascii_digit (first_word at text) i 0 (omega (arith, len)) (ap is_ascii_digit same ∙ here) in
     rw no refl
 
-pub front_too_much : (at most : ℕ) (text : List ℕ) (i : ℕ) → i < position_or_len (λ b. eqb b at) text → most < digits_value 10 (take (i + 1) text) → None ≡ worth most (first_word at text)
+pub front_too_much : (at most : ℕ) (text : List ℕ) (i : ℕ) → i < position_or_len (λ b. eqb b at) text → most < digits_value 10 (take (i + 1) text) →
+    None ≡ digits_to most (first_word at text)
 front_too_much at most text i lt more =
     let same = take-take (i + 1) (position_or_len (λ b. eqb b at) text) text (omega arith) in
     too_much most (first_word at text) (i + 1) (subst (λ (ds : List ℕ). most < digits_value 10 ds) (sym same) more)
 
 -- ---- the number of a word
 
-worth_none : (a b : Bool) (most : ℕ) (w : List ℕ) → None ≡ worth most w → cond (cond a false (cond b false (list_all is_ascii_digit w))) (value_to most w) None ≡ None
+worth_none : (a b : Bool) (most : ℕ) (w : List ℕ) → None ≡ digits_to most w →
+    cond (cond a false (cond b false (list_all is_ascii_digit w))) (value_to most w) None ≡ None
 worth_none true b most w e = refl
 worth_none false true most w e = refl
 worth_none false false most w e = sym e
 
-pub worthless : (most : ℕ) (w : List ℕ) → None ≡ worth most w → number_to most w ≡ None
+pub worthless : (most : ℕ) (w : List ℕ) → None ≡ digits_to most w → number_to most w ≡ None
 unfolding number_to is_number
 worthless most w e = worth_none (eqb (length w) 0) (eqb (get_or w 0 0) 48 && ltb 1 (length w)) most w e
 
@@ -83,7 +118,7 @@ zero_first most w z lt =
     let both : (eqb (get_or w 0 0) 48 && ltb 1 (length w)) ≡ true = grind arith in
     rw both (form_zero (eqb (length w) 0) most w)
 
-pub worth_number : (most : ℕ) (w : List ℕ) (n : ℕ) → 0 < length w → (get_or w 0 0 ≡ 48 → length w ≤ 1) → Some n ≡ worth most w → number_to most w ≡ Some n
+pub worth_number : (most : ℕ) (w : List ℕ) (n : ℕ) → 0 < length w → (get_or w 0 0 ≡ 48 → length w ≤ 1) → Some n ≡ digits_to most w → number_to most w ≡ Some n
 unfolding number_to is_number
 worth_number most w n some one e =
     let a : eqb (length w) 0 ≡ false = grind arith in
@@ -92,7 +127,8 @@ worth_number most w n some one e =
 
 -- ---- the number in front
 
-pub split_here : (at : ℕ) (text : List ℕ) (i : ℕ) → i ≡ position_or_len (λ b. eqb b at) text → i < length text → words_at at text ≡ take i text ∷ words_at at (drop (i + 1) text)
+pub split_here : (at : ℕ) (text : List ℕ) (i : ℕ) → i ≡ position_or_len (λ b. eqb b at) text → i < length text →
+    words_at at text ≡ take i text ∷ words_at at (drop (i + 1) text)
 split_here at text i e lt =
     let first = slice_split_first (λ b. eqb b at) text 0 (omega (arith, e)) in
     subst (λ (k : ℕ). words_at at text ≡ take k text ∷ words_at at (drop (k + 1) text)) (sym e) first
@@ -127,12 +163,14 @@ front_first at text lt = get_or-take (position_or_len (λ b. eqb b at) text) tex
 pub empty_front : (at most : ℕ) (text : List ℕ) (i : ℕ) → i ≡ position_or_len (λ b. eqb b at) text → i ≡ 0 → None ≡ number_word most (words_at at text)
 empty_front at most text i e z = no_front at most text (empty most (first_word at text) (omega (arith, front_len at text, e, z)))
 
-pub zero_front : (at most : ℕ) (text : List ℕ) (i : ℕ) → i ≡ position_or_len (λ b. eqb b at) text → get_or text 0 0 ≡ 48 → 1 < i → None ≡ number_word most (words_at at text)
+pub zero_front : (at most : ℕ) (text : List ℕ) (i : ℕ) → i ≡ position_or_len (λ b. eqb b at) text → get_or text 0 0 ≡ 48 → 1 < i →
+    None ≡ number_word most (words_at at text)
 zero_front at most text i e z lt =
     let first = front_first at text (omega (arith, e)) in
     no_front at most text (zero_first most (first_word at text) (first ∙ z) (omega (arith, front_len at text, e)))
 
-pub front_number : (at most : ℕ) (text : List ℕ) (i n : ℕ) → i ≡ position_or_len (λ b. eqb b at) text → 0 < i → (get_or text 0 0 ≡ 48 → i ≤ 1) → Some n ≡ worth most (first_word at text) → number_to most (take i text) ≡ Some n
+pub front_number : (at most : ℕ) (text : List ℕ) (i n : ℕ) → i ≡ position_or_len (λ b. eqb b at) text → 0 < i → (get_or text 0 0 ≡ 48 → i ≤ 1) →
+    Some n ≡ digits_to most (first_word at text) → number_to most (take i text) ≡ Some n
 front_number at most text i n e some one is =
     let first = front_first at text (omega (arith, e)) in
     let len = front_len at text in
@@ -162,7 +200,8 @@ none_alone most w (Some n) small e none =
     let one = one_word most w n small e in
     absurd cc
 
-pub more_than_one : (most : ℕ) (w rest : List ℕ) (m : ℕ) (r : Option ℕ) → most < 2 ^ 64 → number_to most w ≡ r → Some (m, words_at 32 rest) ≡ number_word most (words_at 32 w) → None ≡ r
+pub more_than_one : (most : ℕ) (w rest : List ℕ) (m : ℕ) (r : Option ℕ) → most < 2 ^ 64 → number_to most w ≡ r →
+    Some (m, words_at 32 rest) ≡ number_word most (words_at 32 w) → None ≡ r
 more_than_one most w rest m None small e some = refl
 more_than_one most w rest m (Some n) small e some =
     let one = one_word most w n small e in

@@ -26,6 +26,10 @@ is_number word =
 unfoldable pub value_to : ℕ → List ℕ → Option ℕ
 value_to most word = if nat_le (digits_value 10 word) most then Some (digits_value 10 word) else None
 
+-- The number from 0 to `most` that a word of digits writes, with zeros in front or without.
+abbrev pub digits_to : ℕ → List ℕ → Option ℕ
+digits_to most word = if list_all is_ascii_digit word then value_to most word else None
+
 -- The number from 0 to `most` that a word writes, none where it has not the form or is greater.
 unfoldable pub number_to : ℕ → List ℕ → Option ℕ
 number_to most word = if is_number word then value_to most word else None

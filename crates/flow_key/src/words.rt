@@ -1,12 +1,11 @@
 //! Words of a text, and the numbers and addresses that they write.
 
-ghost use Rattle.std.specs.Prelude.{◌≡◌, ◌==◌, ◌∷◌, ◌<◌, ◌^◌, ◌≤◌, IfSome, None, Some, true, ℕ, List, if◌then◌else◌};
-ghost use Rattle.std.specs.List.{position, position_or_len, list_all};
-ghost use Rattle.std.specs.Char.{is_ascii_digit};
+ghost use Rattle.std.specs.Prelude.{◌≡◌, ◌==◌, ◌∷◌, ◌<◌, ◌^◌, ◌≤◌, IfSome, None, Some, true, ℕ, List};
+ghost use Rattle.std.specs.List.{position, position_or_len};
 ghost use Rattle.std.specs.Fmt.{decimal};
 ghost use Rattle.std.specs.Option.{option_copied, option_map};
 ghost use Rattle.std.specs.Str.{bytes_eq};
-ghost use Rattle.flow_key.specs.Words.{words_at, words_left, first_word, value_to, number_to};
+ghost use Rattle.flow_key.specs.Words.{words_at, words_left, first_word, digits_to, number_to};
 ghost use Rattle.flow_key.specs.KeyText.{number_word, no_more, address_of, dotted, IsAddress};
 
 fn find(text: &[u8], at: u8) -> Option<usize>
@@ -56,7 +55,7 @@ pub fn is(word: &[u8], text: &[u8]) -> bool
 // without its last digit: a number below it stays in range with any digit more, and the front itself with one up to
 // `last`. So nothing wraps at the top of u64.
 fn digits(text: &[u8], at: u8, most: u64) -> Option<(u64, usize)>
-    ensures value { option_map (λ x. x.0) result ≡ (if list_all is_ascii_digit (first_word at text.now) then value_to most (first_word at text.now) else None) }
+    ensures value { option_map (λ x. x.0) result ≡ digits_to most (first_word at text.now) }
     ensures bound { IfSome result (λ x. x.0 ≤ most) }
     ensures ends { IfSome result (λ x. x.1 ≡ position_or_len (λ b. b == at) text.now) }
 {

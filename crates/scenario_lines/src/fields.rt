@@ -14,8 +14,9 @@ use flow_key::words;
 use flow_key::words::is;
 use lg_model::{Hash, Pick};
 
-// A number from low to most.
-#[tactic(auto, unfolding(crate::specs::Fields::number))]
+// A number from low to most. Where there is none the word is cut off, since only the clause of `cut` tells that there
+// is one.
+#[tactic(auto, unfolding(crate::specs::Fields::number, flow_key::specs::KeyText::number_word))]
 pub(crate) fn number_field(
     text: Option<&[u8]>,
     low: u64,
@@ -29,10 +30,12 @@ pub(crate) fn number_field(
     let Some(text) = text else {
         return Err(LineFault::Bad(Why::WordCount));
     };
-    let (first, rest) = words::cut(text, b' ');
-    match words::number(first, most) {
-        None => Err(LineFault::Bad(Why::BadNumber)),
-        Some(n) => {
+    match words::number_cut(text, b' ', most) {
+        None => {
+            let (_, _) = words::cut(text, b' ');
+            Err(LineFault::Bad(Why::BadNumber))
+        }
+        Some((n, rest)) => {
             if low <= n {
                 Ok((n, rest))
             } else {

@@ -28,7 +28,8 @@ fn address_field(text: Option<&[u8]>) -> Result<([u8; 4], Option<&[u8]>), LineFa
     }
 }
 
-#[tactic(auto, unfolding(crate::specs::Fields::key_number))]
+// Where there is no number the word is cut off, since only the clause of `cut` tells that there is one.
+#[tactic(auto, unfolding(crate::specs::Fields::key_number, flow_key::specs::KeyText::number_word))]
 fn key_number_field(text: Option<&[u8]>, most: u64) -> Result<(u64, Option<&[u8]>), LineFault>
     ensures bound { IfOk result (λ x. x.0 ≤ most) }
     ensures taken { IfOk result (λ x. size (words_left 32 (option_copied text.entry)) ≡ length (decimal x.0) + 1 + size (words_left 32 (option_copied x.1))) }
@@ -37,10 +38,12 @@ fn key_number_field(text: Option<&[u8]>, most: u64) -> Result<(u64, Option<&[u8]
     let Some(text) = text else {
         return Err(LineFault::Bad(Why::WordCount));
     };
-    let (word, rest) = words::cut(text, b' ');
-    match words::number(word, most) {
-        None => Err(LineFault::Bad(Why::BadKey)),
-        Some(n) => Ok((n, rest)),
+    match words::number_cut(text, b' ', most) {
+        None => {
+            let (_, _) = words::cut(text, b' ');
+            Err(LineFault::Bad(Why::BadKey))
+        }
+        Some((n, rest)) => Ok((n, rest)),
     }
 }
 

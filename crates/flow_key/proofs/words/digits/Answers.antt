@@ -9,7 +9,8 @@ use Rattle.flow_key.proofs.words.digits.Goals as goal
 pub returns-then-b-at-clause-value : goal.returns-then-b-at-clause-value
 returns-then-b-at-clause-value c =
     let e = ends_here (λ b. eqb b c.args.at) c.args.text.now c.loop-count.count c.loop-count.invariant.word (grind arith) in
-    worth_front c.args.at c.args.most c.args.text.now c.loop-count.count c.loop-count.value e c.loop-count.invariant.digits c.loop-count.invariant.is c.loop-count.invariant.bound
+    worth_front c.args.at c.args.most c.args.text.now c.loop-count.count
+    c.loop-count.value e c.loop-count.invariant.digits c.loop-count.invariant.is c.loop-count.invariant.bound
 
 pub returns-then-b-at-clause-ends : goal.returns-then-b-at-clause-ends
 returns-then-b-at-clause-ends c = ends_here (λ b. eqb b c.args.at) c.args.text.now c.loop-count.count c.loop-count.invariant.word (grind arith)
@@ -43,7 +44,8 @@ loop-count-preserved c =
 pub returns-clause-value : goal.returns-clause-value
 returns-clause-value c =
     let e : c.loop-count.count ≡ position_or_len (λ b. eqb b c.args.at) c.args.text.now = omega (arith, ends_by (λ b. eqb b c.args.at) c.args.text.now) in
-    worth_front c.args.at c.args.most c.args.text.now c.loop-count.count c.loop-count.value e c.loop-count.invariant.digits c.loop-count.invariant.is c.loop-count.invariant.bound
+    worth_front c.args.at c.args.most c.args.text.now c.loop-count.count
+    c.loop-count.value e c.loop-count.invariant.digits c.loop-count.invariant.is c.loop-count.invariant.bound
 
 pub returns-clause-ends : goal.returns-clause-ends
 returns-clause-ends c = omega (arith, ends_by (λ b. eqb b c.args.at) c.args.text.now)

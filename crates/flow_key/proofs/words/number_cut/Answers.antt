@@ -7,13 +7,15 @@ use Rattle.flow_key.proofs.words.number_cut.Goals.{else-text-eq48-via-then-text-
 use Rattle.flow_key.proofs.words.number_cut.Goals as goal
 
 pub returns-in_default-clause-value : goal.returns-in_default-clause-value
-returns-in_default-clause-value c = no_front c.args.at c.args.most c.args.text.now (worthless c.args.most (first_word c.args.at c.args.text.now) c.in_default.ensures.value)
+returns-in_default-clause-value c =
+    no_front c.args.at c.args.most c.args.text.now (worthless c.args.most (first_word c.args.at c.args.text.now) c.in_default.ensures.value)
 
 pub returns-then-count-eq0-clause-value : goal.returns-then-count-eq0-clause-value
 returns-then-count-eq0-clause-value c = empty_front c.args.at c.args.most c.args.text.now c.in-Some.count c.in-Some.ensures.ends c.if-count-eq0.true
 
 pub returns-then-count-gt1-clause-value : goal.returns-then-count-gt1-clause-value
-returns-then-count-gt1-clause-value c = zero_front c.args.at c.args.most c.args.text.now c.in-Some.count c.in-Some.ensures.ends c.if-text-eq48.true c.if-count-gt1.true
+returns-then-count-gt1-clause-value c =
+    zero_front c.args.at c.args.most c.args.text.now c.in-Some.count c.in-Some.ensures.ends c.if-text-eq48.true c.if-count-gt1.true
 
 the_number_at_the_end : (c : goal.Then-count-text) → number_to c.args.most (take c.in-Some.count c.args.text.now) ≡ Some c.in-Some.n
 the_number_at_the_end c =
@@ -50,7 +52,8 @@ the_rest c =
 
 pub returns-clause-value : goal.returns-clause-value
 returns-clause-value c =
-    front_some c.args.most (take c.in-Some.count c.args.text.now) c.in-Some.n (words_at c.args.at c.args.text.now) (words_at c.args.at c.split_at-2.result.1.now) (the_rest c) (the_number c)
+    front_some c.args.most (take c.in-Some.count c.args.text.now)
+    c.in-Some.n (words_at c.args.at c.args.text.now) (words_at c.args.at c.split_at-2.result.1.now) (the_rest c) (the_number c)
 
 pub returns-clause-spelled : goal.returns-clause-spelled
 returns-clause-spelled c =

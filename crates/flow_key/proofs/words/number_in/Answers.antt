@@ -10,9 +10,11 @@ returns-in-None-clause-value c =
 pub returns-in-Some-default-Some-clause-value : goal.returns-in-Some-default-Some-clause-value
 returns-in-Some-default-Some-clause-value c =
     let rest = c.in-Some-default-Some.field-0-1-0.now in
-    more_than_one c.args.most c.args.word.now rest c.in-Some-default-Some.field-0-0 (number_to c.args.most c.args.word.now) (omega arith) refl (rw c.in-Some-default-Some.field-0-1-is at c.in-Some-default-Some.ensures.value)
+    more_than_one c.args.most c.args.word.now rest c.in-Some-default-Some.field-0-0 (number_to c.args.most c.args.word.now)
+    (omega arith) refl (rw c.in-Some-default-Some.field-0-1-is at c.in-Some-default-Some.ensures.value)
 
 pub returns-in-Some-default-None-clause-value : goal.returns-in-Some-default-None-clause-value
 returns-in-Some-default-None-clause-value c =
     let n = c.in-Some-default-None.n in
-    number_alone c.args.most c.args.word.now n (omega arith) c.in-Some-default-None.ensures.bound (rw c.in-Some-default-None.field-0-1-is at c.in-Some-default-None.ensures.spelled)
+    number_alone c.args.most c.args.word.now n
+    (omega arith) c.in-Some-default-None.ensures.bound (rw c.in-Some-default-None.field-0-1-is at c.in-Some-default-None.ensures.spelled)
