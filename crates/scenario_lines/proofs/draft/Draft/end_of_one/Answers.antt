@@ -17,8 +17,8 @@ invariant_of-self-2-clause-counted c =
 pub invariant_of-self-2-clause-ended : goal.invariant_of-self-2-clause-ended
 invariant_of-self-2-clause-ended c =
     λ i lt. end_counted c.args.self.now.ends c.args.self.now.ends_of_all c.in_ok-switch_at.switch_at i c.args.self.now.parts.steps.items
-        c.push.new.self.items c.in_ok-push.ensures.items
-        (omega (arith, c.in_ok-switch_at.ensures.bound, ap length c.deref.ensures.value, c.args.self.now.few_switches)) (c.args.self.now.ended i lt)
+    c.push.new.self.items c.in_ok-push.ensures.items
+    (omega (arith, c.in_ok-switch_at.ensures.bound, ap length c.deref.ensures.value, c.args.self.now.few_switches)) (c.args.self.now.ended i lt)
 
 pub returns-clause-fits : goal.returns-clause-fits
 returns-clause-fits c =
