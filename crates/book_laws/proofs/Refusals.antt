@@ -25,7 +25,7 @@ use Rattle.upload_world.specs.Pumps.{Has}
 use Rattle.run_laws.specs.Truth.{IsFrozenColumn, book_of}
 use Rattle.run_laws.proofs.Agreeing.{cells_at}
 use Rattle.run_laws.proofs.Insertions.{longer}
-use Rattle.run_laws.proofs.True.{true_run}
+use Rattle.run_laws.proofs.TrueRuns.{true_run}
 use Rattle.book_laws.specs.Legal.{Order, AreLegalNext, uploads_at, upload_at}
 use Rattle.book_laws.specs.Keeping.{HasKeysOnce, IsClash, IsOverfull, IsCaused}
 use Rattle.book_laws.specs.Laws.{LawOfRefusals}

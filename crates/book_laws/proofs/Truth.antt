@@ -18,7 +18,7 @@ use Rattle.flow_query.specs.Told.{NoneIsKnown}
 use Rattle.run_laws.specs.Truth.{IsTrueIn, IsFrozenColumn, NoneArrived, asked_key, book_of, place_key}
 use Rattle.run_laws.proofs.Agreeing.{true_book}
 use Rattle.run_laws.proofs.Found.{none_has, none_found}
-use Rattle.run_laws.proofs.True.{true_run}
+use Rattle.run_laws.proofs.TrueRuns.{true_run}
 use Rattle.book_laws.specs.Legal.{IsLegal}
 use Rattle.book_laws.specs.Keeping.{IsJoined}
 use Rattle.book_laws.specs.Truth.{NoneFound, IsTrueAfter}

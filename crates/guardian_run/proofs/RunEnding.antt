@@ -28,7 +28,7 @@ use Rattle.book_journal.specs.Opening.{OpenLeaves, IsRefused}
 use Rattle.book_journal.specs.Runs.{JournalState, IsRun, start_of, with_fault}
 use Rattle.run_laws.specs.Truth.{IsFrozenColumn, book_of}
 use Rattle.run_laws.proofs.Agreeing.{cells_at}
-use Rattle.run_laws.proofs.True.{true_run}
+use Rattle.run_laws.proofs.TrueRuns.{true_run}
 use Rattle.link_deliveries.specs.Deliveries.{delivered}
 use Rattle.book_laws.proofs.Leaving.{law as files_left}
 use Rattle.book_laws.specs.Keeping.{Acks, IsClash}

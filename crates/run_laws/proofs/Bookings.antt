@@ -25,7 +25,7 @@ use Rattle.run_laws.proofs.Agreeing.{cells_at}
 use Rattle.run_laws.specs.Booking.{host_uploads, uploads_of, booked_in, IsBooking, LawOfBookings}
 use Rattle.run_laws.proofs.Brought.{placed}
 use Rattle.run_laws.proofs.Booked.{IsGood, Comes, comes}
-use Rattle.run_laws.proofs.True.{Placed, frozen_all}
+use Rattle.run_laws.proofs.TrueRuns.{Placed, frozen_all}
 
 -- ---- the columns of the uploads
 

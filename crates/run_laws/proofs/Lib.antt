@@ -1,7 +1,7 @@
 pub mod Found
 pub mod Brought
 pub mod Agreeing
-pub mod True
+pub mod TrueRuns
 pub mod Insertions
 pub mod Booked
 pub mod Bookings

@@ -5,7 +5,7 @@ use Rattle.scenario_text.specs.Text.{reading}
 use Rattle.scenario_parts.specs.Printed.{text_of}
 use Rattle.text_out.specs.Growing.{Bytes, grown}
 use Rattle.text_out.proofs.Putting.{bytes_are}
-use Rattle.scenario_text.proofs.TextAgain.{printed}
+use Rattle.scenario_text.proofs.PrintedTextIsRead.{printed}
 use Rattle.scenario_text.proofs.printing.print.Goals as goal
 
 -- The text of parts that are put after nothing.

@@ -32,7 +32,7 @@ returns-in-Ok-true-clause-says g c =
     let fed = rw c.in-Ok-true.field-0-test at c.in-Ok-true.ensures.fed in
     says_done (g.S.Source.left c.args.source.now) (g.S.Source.left c.loop-taken.source)
     (g.S.Source.left c.next_piece.new.source) c.loop-taken.taken c.in_ok-n.n c.min-want.result c.loop-taken.reader c.feed.new.self c.next_piece.new.buf
-        c.scenario.result
+    c.scenario.result
     le c.loop-taken.invariant.says c.in_ok-n.ensures.bytes fed c.scenario.ensures
 
 pub returns-in-Err-clause-says : goal.returns-in-Err-clause-says
@@ -40,7 +40,7 @@ returns-in-Err-clause-says g c =
     let le : c.loop-taken.taken + c.in_ok-n.n ≤ MOST_TEXT_BYTES = omega (arith, c.in_ok-n.ensures.count) in
     says_bad (g.S.Source.left c.args.source.now) (g.S.Source.left c.loop-taken.source)
     (g.S.Source.left c.next_piece.new.source) c.loop-taken.taken c.in_ok-n.n c.min-want.result c.loop-taken.reader c.feed.new.self c.next_piece.new.buf
-        c.in-Err.e
+    c.in-Err.e
     le c.loop-taken.invariant.says c.in_ok-n.ensures.bytes c.in-Err.ensures.fed
 
 pub loop-taken-preserved : goal.loop-taken-preserved
@@ -75,7 +75,7 @@ returns-in-Ok-true-clause-took g c =
     let spent = rw c.in-Ok-true.field-0-test at c.in-Ok-true.ensures.spent in
     took_done (g.S.Source.left c.args.source.now) (g.S.Source.left c.loop-taken.source)
     (g.S.Source.left c.next_piece.new.source) c.loop-taken.taken c.in_ok-n.n c.min-want.result c.loop-taken.reader c.feed.new.self c.next_piece.new.buf
-        c.scenario.result
+    c.scenario.result
     le c.loop-taken.invariant.needs c.in_ok-n.ensures.bytes spent
 
 pub returns-in-Err-clause-took : goal.returns-in-Err-clause-took
@@ -83,7 +83,7 @@ returns-in-Err-clause-took g c =
     let le : c.loop-taken.taken + c.in_ok-n.n ≤ MOST_TEXT_BYTES = omega (arith, c.in_ok-n.ensures.count) in
     took_bad (g.S.Source.left c.args.source.now) (g.S.Source.left c.loop-taken.source)
     (g.S.Source.left c.next_piece.new.source) c.loop-taken.taken c.in_ok-n.n c.min-want.result c.loop-taken.reader c.feed.new.self c.next_piece.new.buf
-        c.in-Err.e
+    c.in-Err.e
     le c.loop-taken.invariant.needs c.in_ok-n.ensures.bytes c.in-Err.ensures.spent
 
 pub returns-clause-took : goal.returns-clause-took

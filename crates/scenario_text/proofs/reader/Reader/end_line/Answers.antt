@@ -9,7 +9,7 @@ pub returns-in-Err-Bad-clause-fed : goal.returns-in-Err-Bad-clause-fed
 returns-in-Err-Bad-clause-fed c =
     let refused = rw c.in-Err-Bad.field-0-is at c.in-Err-Bad.ensures.leaves in
     end_bad c.args.self.now c.args.front.now c.take_line.new.self.line c.in-Err-Bad.why c.requires.reader.unbroken c.requires.unbroken
-        c.in-Err-Bad.ensures.line refused
+    c.in-Err-Bad.ensures.line refused
 
 pub returns-then-is_done-clause-fed : goal.returns-then-is_done-clause-fed
 returns-then-is_done-clause-fed c = λ long more.

@@ -1,8 +1,8 @@
 use Rattle.std.proofs.lemmas.Bool.Decides.{not_from_Decides}
 use Rattle.scenario_text.specs.New.{parts_of}
-use Rattle.scenario_text.proofs.GoodText.{only_whole}
+use Rattle.scenario_text.proofs.ReadTextFits.{only_whole}
 use Rattle.scenario_text.proofs.InRangeLemmas.{whole_in_range}
-use Rattle.scenario_text.proofs.TextAgain.{printed}
+use Rattle.scenario_text.proofs.PrintedTextIsRead.{printed}
 use Rattle.scenario_text.proofs.scenario.Scenario.new.Goals as goal
 
 pub returns-then-not-is_whole-clause-none : goal.returns-then-not-is_whole-clause-none

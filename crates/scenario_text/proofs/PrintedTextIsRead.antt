@@ -25,12 +25,13 @@ use Rattle.scenario_lines.specs.Line.{line_of}
 use Rattle.scenario_text.specs.Text.{lines_say, reading}
 use Rattle.scenario_parts.specs.Printed.{lines_text, link_text, first_text, declared_text, happening_text, text_of}
 use Rattle.scenario_parts.specs.Whole.{IsWhole}
-use Rattle.scenario_text.proofs.WordsAgain.{AreWords, joined_plain, plain_unbroken, plain_bare}
-use Rattle.scenario_text.proofs.NamesAgain.{at_seam, name_fresh, list_any-map}
-use Rattle.scenario_text.proofs.LinesAgain.{at_state, section_of, guardian_read, shape_are_words, shape_read, pick_are_words, pick_read, bare}
-use Rattle.scenario_text.proofs.LinesAgain.{host_are_words, host_read, switch_are_words, switch_read, FlowFits, flow_are_words, flow_read, link_are_words}
-use Rattle.scenario_text.proofs.LinesAgain.{link_read, PacketFits, packet_are_words, packet_read, end_are_words, end_read, end_all_read, release_read}
-use Rattle.scenario_text.proofs.LinesAgain.{ask_are_words, ask_read, done_read}
+use Rattle.scenario_text.proofs.PrintedWordsAreRead.{AreWords, joined_plain, plain_unbroken, plain_bare}
+use Rattle.scenario_text.proofs.PrintedNamesAreRead.{at_seam, name_fresh, list_any-map}
+use Rattle.scenario_text.proofs.PrintedLinesAreRead.{at_state, section_of, guardian_read, shape_are_words, shape_read, pick_are_words, pick_read, bare}
+use Rattle.scenario_text.proofs.PrintedLinesAreRead.{host_are_words, host_read, switch_are_words, switch_read, FlowFits, flow_are_words, flow_read}
+use Rattle.scenario_text.proofs.PrintedLinesAreRead.{link_are_words}
+use Rattle.scenario_text.proofs.PrintedLinesAreRead.{link_read, PacketFits, packet_are_words, packet_read, end_are_words, end_read, end_all_read, release_read}
+use Rattle.scenario_text.proofs.PrintedLinesAreRead.{ask_are_words, ask_read, done_read}
 
 -- From this state on, the text says the scenario.
 abbrev pub Reads : State → List ℕ → Scenario → Type 0

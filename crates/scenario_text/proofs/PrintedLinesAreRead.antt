@@ -48,9 +48,10 @@ use Rattle.scenario_lines.specs.Line.{shape_line, pick_line, host_line, switch_l
 use Rattle.scenario_lines.specs.Line.{end_line, release_line, ask_line, done_line, form_of, words_line, is_skipped, line_of}
 use Rattle.scenario_lines.proofs.IndexLemmas.{position_none}
 use Rattle.scenario_lines.proofs.NameLemmas.{absent}
-use Rattle.scenario_text.proofs.WordsAgain.{AreWords, is_word, words_append, split_words, number_word_is, key_words_are, numbers_are_words, number_read}
-use Rattle.scenario_text.proofs.WordsAgain.{number_from_read}
-use Rattle.scenario_text.proofs.NamesAgain.{position_is, name_found, thing_found, name_fresh}
+use Rattle.scenario_text.proofs.PrintedWordsAreRead.{AreWords, is_word, words_append, split_words, number_word_is, key_words_are, numbers_are_words}
+use Rattle.scenario_text.proofs.PrintedWordsAreRead.{number_read}
+use Rattle.scenario_text.proofs.PrintedWordsAreRead.{number_from_read}
+use Rattle.scenario_text.proofs.PrintedNamesAreRead.{position_is, name_found, thing_found, name_fresh}
 
 -- The state of a text that has said these parts and is in this section.
 abbrev pub at_state : Section → Scenario → State

@@ -37,13 +37,13 @@ use Rattle.scenario_lines.proofs.NameLemmas.{apart_push}
 use Rattle.scenario_lines.proofs.KeepingLemmas.{host_more, host_linked, switch_more, ask_kept, step_more, ask_more, end_fits, room_at}
 use Rattle.lg_model.specs.Ranges.{IsFlowRange, IsFateRange, IsStepRange, IsAskRange}
 use Rattle.scenario_parts.specs.Parts.{IsFlowInRange, IsStepInRange}
-use Rattle.scenario_text.proofs.WordsAgain.{AreWords, words_append, number_word_is, numbers_are_words, number_read}
-use Rattle.scenario_text.proofs.NamesAgain.{name_found, thing_found, list_any-map}
-use Rattle.scenario_text.proofs.LinesAgain.{at_state, section_of, form_read, bare, host_are_words, host_read, switch_are_words, switch_read, key_read}
-use Rattle.scenario_text.proofs.LinesAgain.{path_are_words, flow_are_words_of, FlowFits, flow_read, link_are_words, link_read, get_seam, set_seam}
-use Rattle.scenario_text.proofs.LinesAgain.{place_seam, later, placed, delays_read, burst_if, PacketFits, packet_read, flow_found, not_word, no_number}
-use Rattle.scenario_text.proofs.LinesAgain.{end_are_words, end_read, end_all_read, release_read, ask_are_words, ask_read}
-use Rattle.scenario_text.proofs.TextAgain.{names_small, things_fresh}
+use Rattle.scenario_text.proofs.PrintedWordsAreRead.{AreWords, words_append, number_word_is, numbers_are_words, number_read}
+use Rattle.scenario_text.proofs.PrintedNamesAreRead.{name_found, thing_found, list_any-map}
+use Rattle.scenario_text.proofs.PrintedLinesAreRead.{at_state, section_of, form_read, bare, host_are_words, host_read, switch_are_words, switch_read, key_read}
+use Rattle.scenario_text.proofs.PrintedLinesAreRead.{path_are_words, flow_are_words_of, FlowFits, flow_read, link_are_words, link_read, get_seam, set_seam}
+use Rattle.scenario_text.proofs.PrintedLinesAreRead.{place_seam, later, placed, delays_read, burst_if, PacketFits, packet_read, flow_found, not_word, no_number}
+use Rattle.scenario_text.proofs.PrintedLinesAreRead.{end_are_words, end_read, end_all_read, release_read, ask_are_words, ask_read}
+use Rattle.scenario_text.proofs.PrintedTextIsRead.{names_small, things_fresh}
 
 -- The words can make a line, and where that line is read at all, it leads to this state, and its parts fit each other.
 abbrev pub Leads : State → Words → State → Type 0

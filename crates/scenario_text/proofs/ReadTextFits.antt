@@ -31,11 +31,11 @@ use Rattle.scenario_text.specs.Text.{Fault, after_line, lines_say, reading}
 use Rattle.scenario_parts.specs.Parts.{AreInRange, IsFlowInRange, IsStepInRange}
 use Rattle.scenario_parts.specs.Printed.{lines_text, link_text, first_text, declared_text, text_of}
 use Rattle.scenario_parts.specs.Whole.{IsWhole}
-use Rattle.scenario_text.proofs.WordsAgain.{AreWords, joined_plain, plain_unbroken, plain_bare}
-use Rattle.scenario_text.proofs.NamesAgain.{at_seam}
-use Rattle.scenario_text.proofs.LinesAgain.{at_state, section_of, guardian_read, shape_are_words, shape_read, pick_are_words, pick_read, bare}
-use Rattle.scenario_text.proofs.TextAgain.{so_far, some, some_push, or_some, line_first, bare_names, no_letters}
-use Rattle.scenario_text.proofs.GoodLines.{Leads, host_leads, switch_leads, flow_leads, link_leads, step_leads, ask_leads}
+use Rattle.scenario_text.proofs.PrintedWordsAreRead.{AreWords, joined_plain, plain_unbroken, plain_bare}
+use Rattle.scenario_text.proofs.PrintedNamesAreRead.{at_seam}
+use Rattle.scenario_text.proofs.PrintedLinesAreRead.{at_state, section_of, guardian_read, shape_are_words, shape_read, pick_are_words, pick_read, bare}
+use Rattle.scenario_text.proofs.PrintedTextIsRead.{so_far, some, some_push, or_some, line_first, bare_names, no_letters}
+use Rattle.scenario_text.proofs.ReadLinesFit.{Leads, host_leads, switch_leads, flow_leads, link_leads, step_leads, ask_leads}
 
 -- From some line and this state on, the text says the scenario, of which only the first m bytes are looked at.
 abbrev pub Says : ℕ → State → List ℕ → Scenario → Type 0
