@@ -15,7 +15,7 @@ pub(crate) fn upload(alloc: Global, order: Order, seq: u32) -> Option<Upload> {
     Upload::new(1, seq, columns).ok()
 }
 
-// The uploads of so many columns.
+// The uploads of that many columns.
 fn uploads(alloc: Global, order: Order, count: u32) -> Option<Vec<Upload>> {
     let mut all = Vec::new(alloc);
     for seq in 0..count / 16 {
@@ -48,7 +48,7 @@ fn filled(alloc: Global, uploads: &[Upload]) -> Option<(Book, u64)> {
     Some((book, sum))
 }
 
-/// Fills a book, so many times.
+/// Fills a book, `times` times.
 pub(crate) fn taken(alloc: Global, order: Order, count: u32, times: u32) -> Option<u64> {
     let uploads = uploads(alloc, order, count)?;
     let mut sum = 0;
@@ -74,7 +74,7 @@ fn ask_all(book: &Book, sum: u64) -> u64 {
     sum
 }
 
-/// Asks a book for all columns, so many times.
+/// Asks a book for all columns, `times` times.
 pub(crate) fn asked(alloc: Global, order: Order, count: u32, times: u32) -> Option<u64> {
     let (book, _) = filled(alloc, &uploads(alloc, order, count)?)?;
     let mut sum = 0;
@@ -98,7 +98,7 @@ fn walk_all(book: &Book, sum: u64) -> u64 {
     sum
 }
 
-/// Walks a book, so many times.
+/// Walks a book, `times` times.
 pub(crate) fn walked(alloc: Global, order: Order, count: u32, times: u32) -> Option<u64> {
     let (book, _) = filled(alloc, &uploads(alloc, order, count)?)?;
     let mut sum = 0;

@@ -24,7 +24,7 @@ fn scan<D: Disk>(disk: &mut D, sum: u64) -> Option<u64> {
     None
 }
 
-/// Reads the file, so many times.
+/// Reads the file, `times` times.
 pub(crate) fn scanned<D: Disk>(disk: &mut D, times: u32) -> Option<u64> {
     let mut sum = 0;
     for _ in 0..times {
@@ -47,7 +47,7 @@ fn append<D: Disk>(disk: &mut D, at: u64, n: u32) -> Option<u64> {
     Some(at + 31)
 }
 
-/// Appends so many records, and answers the length of the file.
+/// Appends `count` records, and answers the length of the file.
 pub(crate) fn appended<D: Disk>(disk: &mut D, count: u32) -> Option<u64> {
     let mut at = disk.len().ok()?;
     for n in 0..count {

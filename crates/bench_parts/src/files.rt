@@ -35,7 +35,7 @@ fn counted(sum: u64, book: &Book) -> u64 {
     )
 }
 
-/// Opens the file as a journal, so many times.
+/// Opens the file as a journal, `times` times.
 pub(crate) fn opened<F: Files>(files: &F, alloc: Global, name: &str, times: u32) -> Option<u64>
 where
     F::File: FileExt,
@@ -48,7 +48,7 @@ where
     Some(sum)
 }
 
-/// Looks at the file, so many times.
+/// Looks at the file, `times` times.
 pub(crate) fn looked<F: Files>(files: &F, alloc: Global, name: &str, times: u32) -> Option<u64>
 where
     F::File: FileExt,
@@ -85,7 +85,7 @@ fn first_lines(alloc: Global, book: &Book) -> Option<u64> {
     Some(sum)
 }
 
-/// Makes the lines of all columns of the file, once to take in their bytes, and then so many times.
+/// Makes the lines of all columns of the file, once to take in their bytes, and then `times` times.
 pub(crate) fn lined<F: Files>(files: &F, alloc: Global, name: &str, times: u32) -> Option<u64>
 where
     F::File: FileExt,
@@ -98,7 +98,7 @@ where
     Some(sum)
 }
 
-/// Opens the file and makes the lines of all its columns, once to take in their bytes, and then so many times.
+/// Opens the file and makes the lines of all its columns, once to take in their bytes, and then `times` times.
 pub(crate) fn listed<F: Files>(files: &F, alloc: Global, name: &str, times: u32) -> Option<u64>
 where
     F::File: FileExt,
@@ -111,7 +111,7 @@ where
     Some(sum)
 }
 
-/// Applies so many uploads of 16 new columns to the journal of the file.
+/// Applies `count` uploads of 16 new columns to the journal of the file.
 pub(crate) fn journaled<F: Files>(files: &F, alloc: Global, name: &str, count: u32) -> Option<u64>
 where
     F::File: FileExt,

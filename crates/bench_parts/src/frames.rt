@@ -88,7 +88,7 @@ fn send(alloc: Global, stream: &mut Stream, upload: &Upload) -> Option<()>
     None
 }
 
-/// Cuts so many sketchlets into uploads, writes each as a frame, and reads it back.
+/// Cuts `count` sketchlets into uploads, writes each as a frame, and reads it back.
 pub(crate) fn sent(alloc: Global, count: u32) -> Option<u64> {
     let items = pool(alloc)?;
     let mut cutter = Cutter::new(alloc, 1);

@@ -34,7 +34,7 @@ fn empty(alloc: Global) -> Option<Journal<MemoryDisk>>
     Some(journal)
 }
 
-/// Applies so many uploads of 16 new columns to a journal over a disk in memory, and answers how many columns it has then.
+/// Applies `count` uploads of 16 new columns to a journal over a disk in memory, and answers how many columns it has then.
 pub(crate) fn applied(alloc: Global, count: u32) -> Option<u64> {
     let mut journal = empty(alloc)?;
     for seq in 0..count {
@@ -197,8 +197,8 @@ fn join_all<D: Disk>(book: &SharedBook<D>, first: &mut Pass, jobs: &mut Vec<Job>
     }
 }
 
-/// Does the same through a shared book, with so many passes, 1 to 64, each of which applies its share in a thread of its
-/// own: so many uploads a turn by `apply_each`, or, for 0, each by `apply`. The count has to be a multiple of what all
+/// Does the same through a shared book, with `passes` passes, 1 to 64, each of which applies its share in a thread of its
+/// own: `turn` uploads a turn by `apply_each`, or, for 0, each by `apply`. The count has to be a multiple of what all
 /// passes apply in a turn.
 pub(crate) fn shared<R: Threads + Wait + Sync>(
     rt: &R,

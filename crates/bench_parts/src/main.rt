@@ -3,15 +3,15 @@
 //! | Words | What is done |
 //! |---|---|
 //! | `frames N` | N sketchlets are cut into uploads, which are written as frames and read back |
-//! | `book ORDER N TIMES` | a book takes N columns in uploads of 16, so many times |
-//! | `find ORDER N TIMES` | a book of N columns is asked for all 262,144 keys in a mixed order, so many times |
-//! | `walk ORDER N TIMES` | a book of N columns is walked from key to key, so many times |
-//! | `read FILE TIMES` | a file is read in pieces of 4,096 bytes, so many times |
+//! | `book ORDER N TIMES` | a book takes N columns in uploads of 16, TIMES times |
+//! | `find ORDER N TIMES` | a book of N columns is asked for all 262,144 keys in a mixed order, TIMES times |
+//! | `walk ORDER N TIMES` | a book of N columns is walked from key to key, TIMES times |
+//! | `read FILE TIMES` | a file is read in pieces of 4,096 bytes, TIMES times |
 //! | `append FILE N` | N records of 31 bytes are appended to a file, each with two writes and two syncs |
-//! | `open FILE TIMES` | a book file is opened as a journal, so many times |
-//! | `look FILE TIMES` | a book file is looked at, so many times |
-//! | `lines FILE TIMES` | the lines of all columns of a book file are made, so many times |
-//! | `list FILE TIMES` | a book file is opened as a journal and listed, so many times |
+//! | `open FILE TIMES` | a book file is opened as a journal, TIMES times |
+//! | `look FILE TIMES` | a book file is looked at, TIMES times |
+//! | `lines FILE TIMES` | the lines of all columns of a book file are made, TIMES times |
+//! | `list FILE TIMES` | a book file is opened as a journal and listed, TIMES times |
 //! | `journal FILE N` | a journal takes N uploads of 16 new columns |
 //! | `alone N` | a journal over a disk in memory takes N uploads of 16 new columns |
 //! | `shared N PASSES` | the same through a shared book, N / PASSES uploads in each of 1 to 64 threads |

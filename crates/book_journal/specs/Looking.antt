@@ -31,7 +31,7 @@ pub record HoldsBook (asked : Option Shape) (b : BookState) (file : List ℕ) : 
   pub suits : Suits asked b.shape
 
 -- What a look answers of a file, where a shape may be asked for: none where it is blank, its book, or its first fault.
--- Want of memory and a fault of the disk say nothing of the file.
+-- Memory that ran out and a fault of the disk say nothing of the file.
 abbrev pub HasFound : Option Shape → List ℕ → Result (Option BookState) OpenFault → Type 0
 HasFound asked file (Ok None) = IsBlank file
 HasFound asked file (Ok (Some b)) = HoldsBook asked b file

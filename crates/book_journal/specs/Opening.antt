@@ -28,7 +28,7 @@ pub record OpenLeaves {D : Type 0} (honest : D → Type 0) (seen : D → List �
   pub settled : (rs : List UploadData) → StandsFor shape rs (seen old) → AreSettled shape rs (images old)
       → AreSettled shape rs (since new (moment old))
 
--- Why a file is refused. A fault of the disk and want of memory say nothing of it.
+-- Why a file is refused. A fault of the disk and memory that ran out say nothing of it.
 abbrev pub IsRefused : Shape → (room : ℕ) → List ℕ → OpenFault → Type 0
 IsRefused shape room file DiskFault = ⊤
 IsRefused shape room file NotAJournal = Finds (Some shape) room file (Err NotAJournal)

@@ -12,7 +12,7 @@ pub record Takes (bytes text rest : List ℕ) : Type 0 where
   pub parts : bytes ≡ text ++ rest
   pub rest_fits : IsBytes rest
 
--- Numbers below a limit are written in so many bytes and read back, whatever follows, and what is read was written so.
+-- Numbers below a limit are written in that many bytes and read back, whatever follows, and what is read was written so.
 pub record LawOfNumbers {E : Type 0} (missing : E) (w : Width) (limit : ℕ) : Type 0 where
   pub len : (n : ℕ) → length (to_be_bytes w n) ≡ byte_len w
   pub again : (n : ℕ) (rest : List ℕ) → n < limit → number_at missing w (to_be_bytes w n ++ rest) ≡ Ok (n, rest)

@@ -36,7 +36,7 @@ entry_of dims look keys r = record { pass = r.head.pass; stored = upload_of r.he
 abbrev pub entries_of : Dims → Shelf → List Key → List Row → List Entry
 entries_of dims look keys rows = map (entry_of dims look keys) rows
 
--- Rows that cut so many keys from n on into pieces of 1 to 16.
+-- Rows that cut that many keys from n on into pieces of 1 to 16.
 abbrev pub IsCut : ℕ → List Row → ℕ → Type 0
 IsCut n [] len = n ≡ len
 IsCut n (r ∷ rs) len = record { first : r.first ≡ n; some : 1 ≤ r.head.count; few : r.head.count ≤ 16; rest : IsCut (n + r.head.count) rs len }
@@ -79,7 +79,7 @@ pub record IsGrown (es0 : Made) (keys0 : List Key) (es : Made) (keys : List Key)
   pub stays : (q : Key) (bs : List Bucket) → kept_at es0 q ≡ Some bs → kept_at es q ≡ Some bs
   pub put : All (λ (c : Column). kept_at es c.key ≡ Some (filled c.dims c.cells)) new
 
--- Room for so many keys more, and for one row more.
+-- Room for that many keys more, and for one row more.
 pub record HasRoom (count keys key_room rows row_room ready ready_room : ℕ) : Type 0 where
   pub more_keys : keys + count ≤ key_room
   pub more_rows : rows < row_room

@@ -31,7 +31,7 @@ fn put_one(blocks: &mut Blocks, keys: &mut Vec<Key>, column: &Column) -> bool
     new
 }
 
-/// Puts those columns of an upload whose key is new, and their keys behind the others. How many these are.
+/// Puts those columns of an upload whose key is new, and their keys after the others. How many these are.
 pub(crate) fn put_new(blocks: &mut Blocks, keys: &mut Vec<Key>, columns: &[Column]) -> u8
     requires known { AreKeys blocks.old.map.entries keys.old.items }
     requires upload { IsUpload columns.now }

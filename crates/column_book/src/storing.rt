@@ -13,7 +13,7 @@ use lg_base::Memory;
 use lg_model::Key;
 use sketchlet_wire::Upload;
 
-// Makes room for one row more, and for so many keys.
+// Makes room for one row more, and for that many keys.
 fn make_room(
     keys: &mut Vec<Key>,
     rows: &mut Vec<Row>,

@@ -88,7 +88,7 @@ mod tests {
     // The words are from a ChaCha8 in another language; a block has 16 of them.
     #[test]
     fn words_of_three_streams(rt: HostRuntime) {
-        for (seed, switch, first, behind_a_block) in [
+        for (seed, switch, first, after_a_block) in [
             (
                 0,
                 0,
@@ -115,7 +115,7 @@ mod tests {
             for _ in 3..16 {
                 word(&mut chance.rng);
             }
-            for want in behind_a_block {
+            for want in after_a_block {
                 assert_eq!(rt; word(&mut chance.rng), want, "seed {seed}");
             }
         }

@@ -16,7 +16,7 @@ use std::{env, io};
 // The file of the book, in the folder in which the program runs.
 const BOOK: &str = "guardian.book";
 
-// The exit status where the words cannot be had, as for want of memory.
+// The exit status where the words cannot be had, as where memory ran out.
 const NO_WORDS: u8 = 11;
 
 // The words after the program's name.

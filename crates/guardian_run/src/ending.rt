@@ -36,7 +36,7 @@ fn put_fault<K: Sink>(sink: &mut K, line: &[u8], status: Status) -> Status
     status
 }
 
-// Writes a fault line that takes memory and answers its status, or the line and status of want of memory where there was
+// Writes a fault line that takes memory and answers its status, or the line and status of memory that ran out where there was
 // none for it.
 fn put_made<K: Sink>(sink: &mut K, line: Result<Vec<u8>, Memory>, status: Status) -> Status
     ensures made { IfOk line (λ text. (result ≡ status) × WritesSome (change K.written K.faults sink.old sink.new) text.items) }
@@ -49,7 +49,7 @@ fn put_made<K: Sink>(sink: &mut K, line: Result<Vec<u8>, Memory>, status: Status
     }
 }
 
-// Writes the line of a refusal, or of want of memory for that line.
+// Writes the line of a refusal, or of memory that ran out for that line.
 fn put_refusal<K: Sink>(alloc: Global, refusal: Refusal, sink: &mut K) -> Status
     ensures { EndsRefused refusal (change K.written K.faults sink.old sink.new) result }
 {
@@ -84,7 +84,7 @@ fn put_refusal<K: Sink>(alloc: Global, refusal: Refusal, sink: &mut K) -> Status
 }
 
 /// Writes what a command gave, and answers the status: all of its output, or the line of why it has none. Memory is
-/// taken for the lines alone that have a number in them; where there is none, the end is that of want of memory.
+/// taken for the lines alone that have a number in them; where there is none, the end is that of memory that ran out.
 pub fn end<K: Sink>(alloc: Global, given: Result<Vec<u8>, Refusal>, sink: &mut K) -> Status
     ensures output { IfOk given (λ text. EndsWith text.items (change K.written K.faults sink.old sink.new) result) }
     ensures refused { IfErr given (λ refusal. EndsRefused refusal (change K.written K.faults sink.old sink.new) result) }

@@ -39,7 +39,7 @@ jobs_of book seen n [] = []
 jobs_of book seen n (s ∷ ss) =
     record { pass = record { book = book; view = new_pass n Idle seen 0 }; sender = s } ∷ jobs_of book seen (n + 1) ss
 
--- There is room for so many workers.
+-- There is room for that many workers.
 pub record HasSeats (count : ℕ) (s : Seats) : Type 0 where
   pub no_jobs : s.jobs.items ≡ []
   pub none_done : s.done.items ≡ []

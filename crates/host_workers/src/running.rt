@@ -25,7 +25,7 @@ pub struct Seats<'a> {
     done: Vec<Sender<'a>>,
 }
 
-/// Takes all memory that the workers of so many senders need of their own: their pumps take more for frames and uploads.
+/// Takes all memory that the workers of these senders need of their own: their pumps take more for frames and uploads.
 pub fn room_for<'a>(alloc: Global, count: usize) -> Result<Seats<'a>, Memory>
     ensures { IfOk result (HasSeats count) }
 {

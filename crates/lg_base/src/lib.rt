@@ -8,7 +8,7 @@
 //! | [`StdSource`], [`StdSink`] | both over std's streams |
 //! | [`Faults`], [`Failing`] | a count of faults, and the calls of an object in memory that are to fail |
 //! | [`Gate`], [`OpenGate`] | what sees each frame that a worker sends, and one that does nothing |
-//! | [`Memory`], [`Failed`], [`WriteFault`] | want of memory, a failed call of the outside, bytes not put |
+//! | [`Memory`], [`Failed`], [`WriteFault`] | memory ran out, a failed call of the outside, bytes not put |
 //!
 //! A source or a sink has a written meaning: the bytes that are left or written, where the implementation
 //! tells them, and a count of faults that never falls. A call fails only where the count rises in it, or

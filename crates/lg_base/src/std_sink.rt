@@ -94,7 +94,7 @@ mod tests {
     use std::io;
     use std::test::Fail;
 
-    // Is interrupted so often, and then takes at most so many bytes a call.
+    // Is interrupted so often, and then takes at most that many bytes a call.
     #[derive(Drop)]
     struct Halting {
         interruptions: u32,

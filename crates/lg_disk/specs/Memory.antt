@@ -50,7 +50,7 @@ pub record IsSince (m : Medium) (t : ℕ) (c : List ℕ) : Type 0 where
 abbrev pub IsDue : Medium → Type 0
 IsDue m = IsToFail m.failing ⊎ IsSomeAnd m.stopped (λ k. k ≤ m.failing.calls)
 
--- the same disk, with one call more that was counted, one more on the list, one fault more, one more want of memory
+-- the same disk, with one call more that was counted, one more on the list, one fault more, one call more that memory ran out in
 abbrev pub counted : Medium → Medium
 counted m = record m { failing = after_call m.failing }
 

@@ -20,7 +20,7 @@ pub(crate) fn copy_from(bytes: &[u8], at: u64, buf: &mut [u8]) -> usize
     count
 }
 
-// Puts bytes in from that place on. At want of memory nothing has changed.
+// Puts bytes in from that place on. Where memory runs out nothing has changed.
 pub(crate) fn put_at(bytes: &mut Vec<u8>, at: usize, put: &[u8]) -> Result<(), Memory>
     requires { at ≤ vec_len bytes.old }
     ensures ok { OnOk result (Holds bytes.old.items at put.now bytes.new.items) }
@@ -32,7 +32,7 @@ pub(crate) fn put_at(bytes: &mut Vec<u8>, at: usize, put: &[u8]) -> Result<(), M
     Ok(())
 }
 
-// Carries out what a call changes. At want of memory nothing has changed.
+// Carries out what a call changes. Where memory runs out nothing has changed.
 pub(crate) fn change(bytes: &mut Vec<u8>, call: &Call) -> Result<(), Memory>
     ensures ok { OnOk result (bytes.new.items ≡ (step (start bytes.old.items) call.now).seen) }
     ensures err { OnErr result (bytes.new.items ≡ bytes.old.items) }

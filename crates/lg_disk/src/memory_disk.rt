@@ -135,7 +135,7 @@ impl MemoryDisk {
         self.failing.fails_next() || is_stopped
     }
 
-    // Carries a change out and puts it on the list. At want of memory nothing has changed.
+    // Carries a change out and puts it on the list. Where memory runs out nothing has changed.
     fn carry(&mut self, call: Call) -> Result<(), Memory>
         ensures ok { OnOk result (self.new ≡ noted self.old call) }
         ensures err { OnErr result (self.new ≡ self.old) }
@@ -146,7 +146,7 @@ impl MemoryDisk {
         Ok(())
     }
 
-    // Fails for want of memory.
+    // Fails since memory ran out.
     fn starve(&mut self) -> Result<(), Failed>
         ensures err { IsErr result }
         ensures starved { self.new ≡ faulted (wanted self.old) }

@@ -133,7 +133,7 @@ brought_in_all ss ls = rounds (length ls + 2) ss ls
 abbrev pub deliveries : List SeqState → List Letter → List ℕ
 deliveries ss ls = map (λ (d : Delivery). d.seq) (brought_in_all ss ls)
 
--- The same for a host with so many uploads, none of which was sent yet.
+-- The same for a host with that many uploads, none of which was sent yet.
 abbrev pub delivered : (count : ℕ) → List Letter → List ℕ
 delivered count ls = deliveries (replicate count Idle) ls
 

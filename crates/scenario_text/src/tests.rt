@@ -56,7 +56,7 @@ fn fault_at_once(alloc: Global, text: &[u8]) -> Result<Option<ScenarioFault>, Fa
     Ok(read(alloc, &mut source).err())
 }
 
-// These bytes, and so many of one byte that the length is this.
+// These bytes, and that many of one byte that the length is this.
 fn filled(alloc: Global, front: &[u8], len: usize, byte: u8) -> Result<Vec<u8>, Fail> {
     let mut text = front.to_vec(alloc)?;
     text.resize(len, byte)?;

@@ -9,7 +9,7 @@ use std::sync::atomic::Ordering::SeqCst;
 // Bells, so many that of 64 passes no two share one.
 const BELLS: usize = 64;
 
-// A pass whose turn is at most so many turns away stays awake for a while.
+// A pass whose turn is at most that many turns away stays awake for a while.
 const NEAR: u64 = 1;
 
 // The marks of a bell at which a pass may sleep: until its turn, and until it is near.

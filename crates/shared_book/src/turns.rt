@@ -23,7 +23,7 @@ use std::snapshot::Snapshot;
 use std::sync::Wait;
 use std::thread;
 
-// A pass whose turn is near and has not come after so many looks goes to sleep.
+// A pass whose turn is near and has not come after that many looks goes to sleep.
 const LOOKS: u32 = 8;
 
 /// The rule of the table.

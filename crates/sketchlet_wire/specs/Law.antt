@@ -22,7 +22,7 @@ pub record LawOfKeys {E : Type 0} (missing : E) : Type 0 where
   pub takes : (bytes : List ℕ) (x : Key × List ℕ) → IsBytes bytes → key_at missing bytes ≡ Ok x
       → Takes bytes (column_key_bytes x.0) x.1 × FitsKey x.0
 
--- So it is with the cells of a column of so many rows.
+-- So it is with the cells of a column of that many rows.
 pub record LawOfCells {E : Type 0} (missing : E) : Type 0 where
   pub len : (rows : ℕ) (cells : Cells) → AreCells rows cells → length (cells_bytes cells) ≡ cells_len rows
   pub again : (rows : ℕ) (cells : Cells) (rest : List ℕ) → AreCells rows cells → cells_at missing rows (cells_bytes cells ++ rest) ≡ Ok (cells, rest)

@@ -34,12 +34,12 @@ width_at bytes = do
 abbrev pub bucket_from : List ℕ → Bucket
 bucket_from bytes = record { bytes = from_be_bytes w32 (take 4 bytes); delay = from_be_bytes w16 (take 2 (drop 4 bytes)) }
 
--- The buckets of so many rows.
+-- The buckets of that many rows.
 abbrev pub buckets_from : ℕ → List ℕ → List Bucket
 buckets_from zero bytes = []
 buckets_from (suc n) bytes = bucket_from bytes ∷ buckets_from n (drop 6 bytes)
 
--- The cells of so many rows, and the bytes after them.
+-- The cells of that many rows, and the bytes after them.
 unfoldable pub cells_at : {E : Type 0} → (missing : E) → (rows : ℕ) → List ℕ → Result (Cells × List ℕ) E
 cells_at missing rows bytes =
     if nat_lt (length bytes) (cells_len rows) then Err missing

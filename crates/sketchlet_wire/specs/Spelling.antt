@@ -25,7 +25,7 @@ pub record FitsKey (key : Key) : Type 0 where
   pub epoch : key.epoch < 2 ^ 32
   pub index : key.index < 2 ^ 16
 
--- The cells of a column of so many rows: a bucket each, of numbers that their fields hold.
+-- The cells of a column of that many rows: a bucket each, of numbers that their fields hold.
 pub record AreCells (rows : ℕ) (cells : Cells) : Type 0 where
   pub buckets : length cells.buckets ≡ rows
   pub fit : FitBuckets cells.buckets
@@ -76,7 +76,7 @@ bucket_bytes b = to_be_bytes w32 b.bytes ++ to_be_bytes w16 b.delay
 unfoldable pub cells_bytes : Cells → List ℕ
 cells_bytes cells = flat_map bucket_bytes cells.buckets
 
--- How many bytes the cells of so many rows have.
+-- How many bytes the cells of that many rows have.
 abbrev pub cells_len : ℕ → ℕ
 cells_len rows = 6 * rows
 
@@ -92,7 +92,7 @@ spelling_len rows = 14 + cells_len rows
 abbrev pub zeros : List Bucket
 zeros = replicate 8 zero_bucket
 
--- The cells of so many rows among eight buckets, of which those past the rows don't count.
+-- The cells of that many rows among eight buckets, of which those past the rows don't count.
 abbrev pub cells_in : (rows : ℕ) → List Bucket → Cells
 cells_in rows kept = record { buckets = take rows kept }
 

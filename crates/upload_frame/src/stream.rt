@@ -91,7 +91,7 @@ impl Stream {
         &self.bytes[self.at..]
     }
 
-    // Takes what is at the front: a frame of so many bytes, or a fault, after which no byte is kept.
+    // Takes what is at the front: a frame of that many bytes, or a fault, after which no byte is kept.
     pub(crate) fn settle<T: Drop>(
         &mut self,
         front: Result<Option<(T, usize)>, NextFault>,

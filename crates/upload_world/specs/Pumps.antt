@@ -104,7 +104,7 @@ module _ (shape : Shape) (room : ℕ) (ups : List UploadData) where
     pub calls : w.begun ≡ v.begun + length earlier + 1
     pub cause : IsCause q v w fault
 
-  -- Want of memory: the first deliveries stand in the list, at most one more call was made, the mark is as it was, and
+  -- Memory ran out: the first deliveries stand in the list, at most one more call was made, the mark is as it was, and
   -- no upload is refused.
   pub record IsStarved (ds : List ℕ) (v w : View) (ts : List SeqState) : Type 0 where
     pub earlier : List ℕ

@@ -157,7 +157,7 @@ fn join_all<D: Disk>(book: &SharedBook<D>, first: &mut Pass, jobs: &mut Vec<Job>
     stored
 }
 
-// Opens an empty book, lets so many passes apply so many uploads each, every pass in a thread of its own, and closes the
+// Opens an empty book, lets so many passes apply that many uploads each, every pass in a thread of its own, and closes the
 // book. How many uploads were stored, and the book.
 fn run<R: Threads + Wait + Sync>(
     rt: &R,
