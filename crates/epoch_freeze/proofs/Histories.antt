@@ -1,11 +1,11 @@
 -- The two sketches after any list of packets and ends.
-use Rattle.std.specs.Prelude.{◌≡◌, ℕ, zero, suc, ◌+◌, ◌<◌, ◌-◌, List, [], ◌∷◌, fold}
-use Rattle.std.proofs.Common.{refl, sym, ap, ◌∙◌, arith, zero-add}
+use Rattle.std.specs.Prelude.{◌≡◌, ℕ, zero, suc, ◌+◌, ◌-◌, List, [], ◌∷◌, fold}
+use Rattle.std.proofs.Common.{refl, ap, ◌∙◌, arith, zero-add}
 use Rattle.lg_model.specs.Placing.{Shape}
 use Rattle.lg_model.specs.Trace.{Observation}
 use Rattle.lg_model.specs.Sketch.{Table, zero_table, raise_by}
 use Rattle.lg_model.specs.TwinsState.{TwinsState, new_twins, with_seen, with_end}
-use Rattle.epoch_freeze.specs.History.{Event, Sees, Ends, after_event, ends_in, seen_in_epoch, HaveSeen, LawOfTheEpochs}
+use Rattle.epoch_freeze.specs.History.{Event, Sees, Ends, after_event, ends_in, seen_in_epoch, LawOfTheEpochs}
 
 -- what the k-th epoch from now on begins with: the one that runs with its counters, each later one with zeros
 abbrev begins : TwinsState → ℕ → Table

@@ -72,8 +72,10 @@ impl Twins {
         mem::swap(&mut self.current, &mut self.frozen);
         self.current.clear();
         self.epoch += 1;
+        if self.put > 0 {
+            self.times.fill(0);
+        }
         self.put = 0;
-        self.times.fill(0);
     }
 
     /// The number of epochs that have ended.
