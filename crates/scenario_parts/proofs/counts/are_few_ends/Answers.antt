@@ -23,7 +23,7 @@ loop-step-preserved c = elim c.match-step.branch [
     len = rw w.ends-is (length-set c.loop-step.ends w.in-End.switch_at _ ∙ c.loop-step.invariant.len);
     counted = λ k lt.
         let at = end_in_range (length c.args.switches.now) c.args.steps.now c.loop-step.step-index w.in-End.switch_at c.step-item.result
-            c.requires.positions c.loop-step-test.true c.step-item.is w.in-End.is in
+        c.requires.positions c.loop-step-test.true c.step-item.is w.in-End.is in
         rw (w.ends-is, w.ends_of_all-is)
         (end_counted c.loop-step.ends c.loop-step.ends_of_all w.in-End.switch_at k (take c.loop-step.step-index c.args.steps.now)
         (take (c.loop-step.step-index + 1) c.args.steps.now)

@@ -13,7 +13,7 @@ returns g c =
     let two = two_parts (g.T.TextOut.kind c.args.out.now) (g.T.TextOut.kind c.put_flow_front.new.out) (g.T.TextOut.kind c.put_flow_back.new.out)
     (codes "flow") (decimal c.args.flow.now.name ∷ key_parts c.args.flow.now.key [])
     (codes "host" ∷ decimal c.host_name-host.result ∷ codes "path" ∷ path_words c.args.switches.now c.items.result.now) c.in_ok-put_flow_front.ensures
-        c.in_ok-put_flow_back.ensures in
+    c.in_ok-put_flow_back.ensures in
     let text = rw c.items.ensures at (rw c.host_name-host.ensures at two) in
     with_end (g.T.TextOut.kind c.args.out.now) (g.T.TextOut.kind c.put_flow_back.new.out) (g.T.TextOut.kind c.put_bytes.new.out)
     (flow_words c.args.hosts.now c.args.switches.now c.args.flow.now) text c.in_ok-put_bytes.ensures
