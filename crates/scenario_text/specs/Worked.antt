@@ -20,7 +20,8 @@ with_head lines = text (codes "guardian 1" ∷ codes "shape 2 1 ports" ∷ codes
 -- The text of the first scenario, with this ask.
 abbrev pub first_scenario_text : List ℕ → List ℕ
 first_scenario_text ask =
-    with_head (codes "flow 1 10.0.0.1 10.0.0.2 6 2 1 host 1 path 1" ∷ codes "packet 1 1500 20" ∷ codes "end 1" ∷ codes "packet 1 100 5" ∷ ask ∷ codes "done" ∷ [])
+    with_head (codes "flow 1 10.0.0.1 10.0.0.2 6 2 1 host 1 path 1" ∷ codes "packet 1 1500 20" ∷ codes "end 1"
+    ∷ codes "packet 1 100 5" ∷ ask ∷ codes "done" ∷ [])
 
 -- The first scenario.
 abbrev pub first_scenario : Scenario
