@@ -1,7 +1,7 @@
 -- What one line adds leaves parts that keep what every scenario keeps.
 use Rattle.std.proofs.Common.{◌≡◌, ℕ, suc, zero, ◌+◌, ◌<◌, ◌≤◌, List, [], ◌∷◌, ◌++◌, length, length-append, get_or, length-set, refl, ap, ◌∙◌, arith, true}
 use Rattle.std.proofs.Common.{false, cond, eqb, Bool, ◌⊎◌, inl, inr}
-use Rattle.std.specs.Prelude.{slice_get, Option, Some, None, All, ◌&&◌, ◌==◌, nat_lt}
+use Rattle.std.specs.Prelude.{slice_get, Option, Some, None, ◌&&◌, ◌==◌, nat_lt}
 use Rattle.std.specs.List.{list_any}
 use Rattle.std.proofs.lemmas.Bool.{cases_lt}
 use Rattle.std.proofs.lemmas.List.{get_or_append_left}
@@ -15,7 +15,7 @@ use Rattle.lg_model.specs.declared.scenario.Pick.{Pick}
 use Rattle.lg_model.specs.declared.scenario.HostLine.{HostLine}
 use Rattle.lg_model.specs.declared.scenario.Letter.{Letter}
 use Rattle.lg_model.specs.Placing.{Shape, IsShape}
-use Rattle.lg_model.specs.Keeping.{IsHost, AreHosts, IsFlow, AreFlows, IsStep, AreSteps, IsAsk, AreAsks, names_of, ends_of}
+use Rattle.lg_model.specs.Keeping.{IsHost, AreHosts, IsFlow, AreFlows, IsStep, AreSteps, IsAsk, names_of, ends_of}
 use Rattle.lg_model.specs.Ranges.{IsHashRange, IsPickRange}
 use Rattle.lg_model.specs.Scenario.{flow_at, no_flow, packet_count, burst_of, is_end_of}
 use Rattle.scenario_lines.specs.declared.section.Section.{Section}

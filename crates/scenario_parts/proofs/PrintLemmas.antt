@@ -3,13 +3,10 @@ use Rattle.std.proofs.Common.{◌≡◌, ◌<◌, ℕ, true, All, List, [], ◌�
 use Rattle.std.specs.Prelude.{nat_lt}
 use Rattle.std.specs.List.{list_all}
 use Rattle.std.proofs.lemmas.List.Sums.{list_all-from_AllPass}
-use Rattle.lg_model.specs.declared.scenario.Pick.{Pick}
-use Rattle.lg_model.specs.Placing.{Shape}
-use Rattle.lg_model.specs.Scenario.{Scenario}
 use Rattle.text_out.specs.Growing.{Kind, grown}
 use Rattle.text_out.proofs.Putting.{grown_on}
 use Rattle.text_out.specs.Words.{Words, spaced, joined}
-use Rattle.scenario_lines.specs.Spelling.{line_text, guardian_words, shape_line_words, pick_line_words}
+use Rattle.scenario_lines.specs.Spelling.{line_text}
 
 spaced_append : (ws vs : Words) → spaced (ws ++ vs) ≡ spaced ws ++ spaced vs
 spaced_append [] vs = refl
