@@ -16,7 +16,8 @@ use row_hash::Shape;
 use text_out::{Room, TextOut};
 
 fn put_first_lines<T: TextOut>(out: &mut T, shape: &Shape, pick: &Pick) -> Result<(), T::Fault>
-    ensures { Prints result (T.kind out.old) (T.kind out.new) (line_text guardian_words ++ (line_text (shape_line_words shape.now) ++ line_text (pick_line_words pick.now))) }
+    ensures { Prints result (T.kind out.old) (T.kind out.new)
+        (line_text guardian_words ++ (line_text (shape_line_words shape.now) ++ line_text (pick_line_words pick.now))) }
 {
     put_guardian(out)?;
     put_shape(out, shape)?;

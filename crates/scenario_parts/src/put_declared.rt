@@ -68,7 +68,8 @@ fn put_flow_back<T: TextOut>(
     path: &[u16],
 ) -> Result<(), T::Fault>
     requires { list_all (λ at. nat_lt at (length switches.now)) path.now ≡ true }
-    ensures { Prints result (T.kind out.old) (T.kind out.new) (spaced (codes "host" ∷ decimal host ∷ codes "path" ∷ path_words switches.now path.now)) }
+    ensures { Prints result (T.kind out.old) (T.kind out.new)
+        (spaced (codes "host" ∷ decimal host ∷ codes "path" ∷ path_words switches.now path.now)) }
 {
     put_bytes(out, b" host")?;
     put_next(out, host as u64)?;

@@ -42,7 +42,8 @@ fn put_packet_front<T: TextOut>(
     size: u16,
     delays: &[u32],
 ) -> Result<(), T::Fault>
-    ensures { Prints result (T.kind out.old) (T.kind out.new) (joined (codes "packet" ∷ decimal name ∷ decimal size ∷ map decimal delays.now)) }
+    ensures { Prints result (T.kind out.old) (T.kind out.new)
+        (joined (codes "packet" ∷ decimal name ∷ decimal size ∷ map decimal delays.now)) }
 {
     put_bytes(out, b"packet")?;
     put_next(out, name as u64)?;
@@ -65,7 +66,8 @@ fn put_packet<T: TextOut>(
     burst: u32,
     fate: Fate,
 ) -> Result<(), T::Fault>
-    ensures { Prints result (T.kind out.old) (T.kind out.new) (joined (codes "packet" ∷ decimal name ∷ decimal size ∷ (map decimal delays.now ++ (burst_words burst ++ fate_words fate)))) }
+    ensures { Prints result (T.kind out.old) (T.kind out.new)
+        (joined (codes "packet" ∷ decimal name ∷ decimal size ∷ (map decimal delays.now ++ (burst_words burst ++ fate_words fate)))) }
 {
     put_packet_front(out, name, size, delays)?;
     put_tail(out, burst, fate)?;
