@@ -27,7 +27,7 @@ fn one_packet_and_two_ends(rt: HostRuntime) -> Result<(), Fail> {
     assert_eq!(rt; twins.width(), 4);
     assert_eq!(rt; twins.shape(), shape);
 
-    twins.see(&places(&shape, &KEY), 100, 7);
+    twins.see(&places(&shape, &KEY), 100, 7, 1);
     assert_eq!(rt; twins.current().bucket(0, 2), counted);
 
     twins.end();

@@ -1,5 +1,6 @@
 //! The sketches of a switch and its epochs (docs/DEFINITIONS.md, Twins).
 ghost use Rattle.std.specs.Prelude.{◌≡◌, ◌<◌, ◌≤◌, ◌-◌, ◌^◌, length, slice_index, All, IfOk, IfSome, IfNone, MatchOption};
+ghost use Rattle.std.specs.Fn.{iterate};
 ghost use Rattle.lg_model.specs.declared.limits.TheConstants.{MOST_ENDS};
 ghost use Rattle.lg_model.specs.Placing.{IsShape};
 ghost use Rattle.lg_model.specs.Sketch.{raise};
@@ -53,14 +54,15 @@ impl Twins {
         })
     }
 
-    /// Counts a packet of `size` bytes that waited `delay` microseconds at its flow's places, which are one a row and
-    /// below the width, in the current sketch.
-    pub fn see(&mut self, places: &Places, size: u16, delay: u32)
+    /// Counts `burst` packets, at least one, of `size` bytes each, that waited `delay` microseconds at their flow's places,
+    /// which are one a row and below the width, in the current sketch. As fast for a burst as for one packet.
+    pub fn see(&mut self, places: &Places, size: u16, delay: u32, burst: u32)
+        requires some { 1 ≤ burst }
         requires rows { length places.now ≡ self.old.shape.rows }
         requires width { All (λ j. j < self.old.shape.width) places.now }
-        ensures { self.new ≡ record self.old { current = raise (slice_index places.now) size delay self.old.current } }
+        ensures { self.new ≡ record self.old { current = iterate (raise (slice_index places.now) size delay) burst self.old.current } }
     {
-        self.current.update(places, size, delay);
+        self.current.update_burst(places, size, delay, burst);
     }
 
     /// Ends the epoch: the current sketch becomes the frozen one, the new current one is of zeros, the epoch rises by

@@ -11,14 +11,14 @@ use lg_model::Bucket;
 ///
 /// The new sum is the greater of the old one and of the answer plus the size; the new maximum is the greater of the
 /// old one and of the delay. Sums stand still at `u32::MAX`, maxima at `u16::MAX`. No other bucket changes.
-pub fn step(row: &mut [Bucket], place: u16, size: u16, delay: u32, running: u32) -> u32
+pub fn step(row: &mut [Bucket], place: u16, size: u32, delay: u32, running: u32) -> u32
     requires { place < length row.old }
     ensures least { result ≡ min running (bucket_in row.old place).bytes }
     ensures row { row.new ≡ slice_set row.old place (raised (bucket_in row.old place) result size delay) }
 {
     let bucket = row[place as usize];
     let least = running.min(bucket.bytes);
-    let bytes = least.saturating_add(u32::from(size));
+    let bytes = least.saturating_add(size);
     let delay = u16::try_from(delay).unwrap_or(u16::MAX);
     row[place as usize] = Bucket {
         bytes: bucket.bytes.max(bytes),

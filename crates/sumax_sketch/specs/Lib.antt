@@ -1,1 +1,2 @@
 pub mod SketchState
+pub mod Touched

@@ -11,6 +11,7 @@ mod rows;
 mod sketch;
 #[cfg(test)]
 mod tests;
+mod touched;
 
 pub use sketch::Sketch;
 pub use sumax_row::Bucket;

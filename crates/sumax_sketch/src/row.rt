@@ -35,7 +35,7 @@ impl Row {
     }
 
     /// Counts a packet in the bucket at the place, by one step of the row.
-    pub fn raise(&mut self, place: u16, size: u16, delay: u32, running: u32) -> u32
+    pub fn raise(&mut self, place: u16, size: u32, delay: u32, running: u32) -> u32
         requires { place < length self.old }
         ensures least { result ≡ min running (bucket_in self.old place).bytes }
         ensures row { self.new ≡ slice_set self.old place (raised (bucket_in self.old place) result size delay) }
@@ -57,6 +57,16 @@ impl Row {
         ensures { self.new ≡ slice_set self.old index bucket }
     {
         self.buckets[index as usize] = bucket;
+    }
+
+    /// Makes the bucket at an index zero. One past the row is none.
+    pub fn zero(&mut self, index: u16)
+        ensures { self.new ≡ slice_set self.old index zero_bucket }
+    {
+        let index = usize::from(index);
+        if index < self.buckets.len() {
+            self.buckets[index] = ZERO;
+        }
     }
 
     /// Makes all buckets zeros.

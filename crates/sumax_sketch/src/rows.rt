@@ -3,6 +3,7 @@ ghost use Rattle.std.specs.Prelude.{◌≡◌, ◌<◌, ◌≤◌, ◌-◌, ℕ,
 ghost use Rattle.lg_model.specs.Placing.{IsShape};
 ghost use Rattle.lg_model.specs.Sketch.{raise, column_at, zero_bucket, zero_table};
 ghost use Rattle.sumax_sketch.specs.SketchState.{with_column};
+ghost use Rattle.sumax_sketch.specs.Touched.{AreZeroedAt};
 
 use crate::row::{Row, ZERO};
 use row_hash::{Places, Shape};
@@ -22,7 +23,7 @@ pub fn zero_rows(alloc: Global, shape: &Shape) -> Result<Vec<Row>, AllocError>
 }
 
 /// Counts a packet in its flow's bucket of each row. The least old sum is handed on from row to row.
-pub fn raise_rows(rows: &mut [Row], places: &Places, size: u16, delay: u32)
+pub fn raise_rows(rows: &mut [Row], places: &Places, size: u32, delay: u32)
     requires rows { length places.now ≡ length rows.old }
     requires inside { EachIndex places.now (λ i. slice_index places.now i < length (slice_index_or rows.old i [])) }
     requires few { length places.now < 256 }
@@ -70,5 +71,16 @@ pub fn clear_rows(rows: &mut [Row])
     for i in 0..rows.len() {
         let row = &mut rows[i];
         row.clear();
+    }
+}
+
+/// Makes the bucket of each row at its place a zero.
+pub fn clear_places(rows: &mut [Row], at: &[u16; 8])
+    requires few { length rows.old ≤ 8 }
+    ensures { AreZeroedAt at.now rows.old rows.new }
+{
+    for i in 0..rows.len() {
+        let row = &mut rows[i];
+        row.zero(at[i]);
     }
 }

@@ -1,11 +1,13 @@
 //! Whole sketches (docs/DEFINITIONS.md, Raise).
-ghost use Rattle.std.specs.Prelude.{◌≡◌, ◌<◌, ◌-◌, length, take, drop, replicate, slice_index, All, IfOk};
+ghost use Rattle.std.specs.Prelude.{◌≡◌, ◌<◌, ◌≤◌, ◌-◌, length, take, drop, replicate, slice_index, All, IfOk};
+ghost use Rattle.std.specs.Fn.{iterate};
 ghost use Rattle.lg_model.specs.Placing.{IsShape};
 ghost use Rattle.lg_model.specs.Sketch.{raise, zero_table, bucket_at, column_at, zero_bucket};
 ghost use Rattle.sumax_sketch.specs.SketchState.{zero_sketch, with_column};
 
 use crate::row::Row;
-use crate::rows::{clear_rows, column, raise_rows, set_column, zero_rows};
+use crate::rows::{column, raise_rows, set_column, zero_rows};
+use crate::touched::Touched;
 use lg_base::Memory;
 use row_hash::{Places, Shape};
 use std::alloc::Global;
@@ -17,18 +19,21 @@ use sumax_row::Bucket;
 pub struct Sketch {
     shape: Shape,
     rows: Vec<Row>,
+    // what may be other than zero
+    touched: Touched,
 }
 
 impl Model for Sketch {
     ghost use Rattle.lg_model.specs.Placing.{IsShape};
     ghost use Rattle.lg_model.specs.Sketch.{IsTable};
     ghost use Rattle.sumax_sketch.specs.SketchState.{SketchState};
+    ghost use Rattle.sumax_sketch.specs.Touched.{IsNoted};
 
     ghost Value = { SketchState };
 
     ghost view = { λ s. record { shape = s.shape; table = s.rows.items } };
 
-    ghost invariant = { λ s. IsTable s.shape s.rows.items × IsShape s.shape.rows s.shape.width };
+    ghost invariant = { λ s. IsTable s.shape s.rows.items × IsShape s.shape.rows s.shape.width × IsNoted s.touched s.rows.items };
 }
 
 impl Sketch {
@@ -37,20 +42,36 @@ impl Sketch {
         ensures { IfOk result (λ s. s ≡ zero_sketch shape.now) }
     {
         let rows = zero_rows(alloc, shape)?;
+        let touched = Touched::new(alloc, shape.width())?;
         Ok(Sketch {
             shape: *shape,
             rows,
+            touched,
         })
     }
 
-    /// Counts a packet of `size` bytes that waited `delay` microseconds at its flow's places, which are one a row and
-    /// below the width. No other bucket changes.
-    pub fn update(&mut self, places: &Places, size: u16, delay: u32)
+    /// Counts a packet, or several together, of `size` bytes that waited `delay` microseconds at the flow's places, which
+    /// are one a row and below the width. No other bucket changes.
+    pub fn update(&mut self, places: &Places, size: u32, delay: u32)
         requires rows { length places.now ≡ self.old.shape.rows }
         requires width { All (λ j. j < self.old.shape.width) places.now }
         ensures { self.new ≡ record self.old { table = raise (slice_index places.now) size delay self.old.table } }
     {
+        self.touched.note_packet(places, self.rows.len());
         raise_rows(&mut self.rows, places, size, delay);
+    }
+
+    /// Counts `burst` packets, at least one, of `size` bytes each, that waited `delay` microseconds at their flow's places,
+    /// which are one a row and below the width: in one step, as one packet of all their bytes.
+    pub fn update_burst(&mut self, places: &Places, size: u16, delay: u32, burst: u32)
+        requires some { 1 ≤ burst }
+        requires rows { length places.now ≡ self.old.shape.rows }
+        requires width { All (λ j. j < self.old.shape.width) places.now }
+        ensures { self.new ≡ record self.old { table = iterate (raise (slice_index places.now) size delay) burst self.old.table } }
+    {
+        let _shape = &self.shape;
+        let bytes = u32::from(size).saturating_mul(burst);
+        self.update(places, bytes, delay);
     }
 
     /// The bucket of a row at an index, which are below the shape's rows and width.
@@ -77,6 +98,7 @@ impl Sketch {
         requires { index < self.old.shape.width }
         ensures { self.new ≡ record self.old { table = with_column index buckets.now self.old.table } }
     {
+        self.touched.note_all();
         set_column(&mut self.rows, index, buckets);
     }
 
@@ -84,7 +106,7 @@ impl Sketch {
     pub fn clear(&mut self)
         ensures { self.new ≡ zero_sketch self.old.shape }
     {
-        clear_rows(&mut self.rows);
+        self.touched.clear(&mut self.rows);
     }
 
     /// The shape, which never changes.

@@ -62,3 +62,29 @@ fn buckets_past_the_rows_are_ignored(rt: HostRuntime) -> Result<(), Fail> {
     assert_eq!(rt; sketch.column(3), [ZERO; 8]);
     Ok(())
 }
+
+// The second flow shares a bucket with the first, so that the least sum is not that of row 0.
+#[test]
+fn a_burst_is_as_many_packets(rt: HostRuntime) -> Result<(), Fail> {
+    let shape = Shape::new(2, 4, Hash::Ports).ok_or("no shape")?;
+    let first = places(&shape, &key(2, 2));
+    let second = places(&shape, &key(2, 1));
+    for size in [0, 100, 65535] {
+        let mut at_once = Sketch::new(rt.alloc(), &shape)?;
+        at_once.update(&first, 150, 9);
+        at_once.update_burst(&second, size, 7, 3);
+        let mut one_by_one = Sketch::new(rt.alloc(), &shape)?;
+        one_by_one.update(&first, 150, 9);
+        one_by_one.update(&second, u32::from(size), 7);
+        one_by_one.update(&second, u32::from(size), 7);
+        one_by_one.update(&second, u32::from(size), 7);
+        for index in 0..4 {
+            assert_eq!(rt;
+                at_once.column(index),
+                one_by_one.column(index),
+                "{size} {index}"
+            );
+        }
+    }
+    Ok(())
+}
