@@ -1,3 +1,4 @@
+pub mod Bursts
 pub mod Offers
 pub mod Onward
 pub mod Delivering

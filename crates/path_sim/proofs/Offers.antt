@@ -10,15 +10,15 @@ use Rattle.std.proofs.lemmas.Bool.Decides.{eqb_tells}
 use Rattle.std.proofs.lemmas.Bool.{false≢true}
 use Rattle.lg_model.specs.Scenario.{Scenario}
 use Rattle.lg_model.specs.Sketch.{column_at}
-use Rattle.lg_model.specs.Trace.{Meeting, ended_before, observation}
+use Rattle.lg_model.specs.Trace.{Meeting, ended_before}
 use Rattle.lg_model.specs.Carrying as model
 use Rattle.lg_model.specs.Carrying.{Offer, offer_at, carry_at, hops_left, is_offered, is_out, with_choice}
 use Rattle.lg_model.specs.Arriving.{cargo, column_of}
 use Rattle.lg_model.specs.Columns.{Column, dims_of}
 use Rattle.lg_model.specs.Offering.{Picks, IsPick, IsOffered, Offering, offering}
-use Rattle.lg_model.specs.TwinsState.{TwinsState, AreTwins, IsTwinsState, offer_of, with_put, with_seen}
+use Rattle.lg_model.specs.TwinsState.{TwinsState, AreTwins, IsTwinsState, offer_of, with_put}
 use Rattle.lg_model.specs.Matching.{MatchedOption}
-use Rattle.lg_model.proofs.Twinning.{twins_put, twins_see}
+use Rattle.lg_model.proofs.Twinning.{twins_put}
 use Rattle.lg_model.proofs.Cargo.{cargo_none, buckets_are}
 use Rattle.path_sim.specs.Parts.{frozen_column, IsBefore}
 
@@ -55,12 +55,6 @@ offer_early w m cs none = rw none refl
 pub pick_none : {S : Type 0} (picks : Picks S) (w : Scenario) (m : Meeting) (ps : List S) (cs : List model.Carry) → is_offered w cs m ≡ false
     → IsPick picks w m (offering ps cs) (offering ps cs)
 pick_none picks w m ps cs no_offer = record { offers = λ yes_offer. absurd (false≢true (sym no_offer ∙ yes_offer)); passes = λ q. refl }
-
--- the twins after the count
-pub seen_all : (w : Scenario) (m : Meeting) (ms ms' : List Meeting) (cs : List model.Carry) (ts ts' : List TwinsState) (d : TwinsState)
-    → AreTwins w m.step_at ms cs ts → m.switch_at < length ts →
-    ms' ≡ ms ++ m ∷ [] → ts' ≡ slice_set ts m.switch_at (with_seen (slice_index_or ts m.switch_at d) (observation m)) → AreTwins w m.step_at ms' cs ts'
-seen_all w m ms ms' cs ts ts' d all inside more counted = rw (more, counted) (twins_see w m.step_at ms cs ts m d all refl inside)
 
 -- what is carried after an offer is carried by packets up to this one
 pub pick_before : {S : Type 0} (picks : Picks S) (w : Scenario) (m : Meeting) (old new : Offering S) → IsPick picks w m old new →

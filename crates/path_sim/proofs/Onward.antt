@@ -2,6 +2,7 @@
 use Rattle.std.specs.Prelude.{◌≡◌, ℕ, ◌+◌, ◌≤◌, List, length, Option, Some, None, All}
 use Rattle.std.proofs.Common.{sym, subst, arith, add-zero}
 use Rattle.lg_model.specs.Scenario.{Scenario}
+use Rattle.lg_model.specs.Trace.{Meeting}
 use Rattle.lg_model.specs.Matching.{MatchedOption}
 use Rattle.lg_model.specs.Carrying as model
 use Rattle.lg_model.specs.Offering.{Picks, Offering}
@@ -11,7 +12,7 @@ use Rattle.lg_model.proofs.Cargo.{cargo_none}
 use Rattle.path_sim.specs.declared.post.Post.{Ghosts}
 use Rattle.path_sim.specs.declared.traffic.Traffic.{Traffic}
 use Rattle.path_sim.specs.Parts.{IsBefore, some_count}
-use Rattle.path_sim.specs.Running.{IsMail, IsRun, IsRunTo, after_packet}
+use Rattle.path_sim.specs.Running.{IsMail, IsRun, IsRunAhead, after_packet}
 use Rattle.path_sim.proofs.Offers.{none_carried, before_more}
 
 before_next : {C : Type 0} (k : ℕ) (cs : List model.Carry) (hand : Option C) → All (IsBefore (k + some_count hand)) cs → All (IsBefore (k + 1)) cs
@@ -28,10 +29,11 @@ pub nothing_yet : {C : Type 0} (stands : C → Column → Type 0) (w : Scenario)
 nothing_yet stands w cs k before = subst (MatchedOption stands None) (sym (cargo_none w cs k (none_carried k cs before))) tt
 
 -- the packet of number k has gone its way, and has settled
-pub next_packet : {S O C : Type 0} (picks : Picks S) (post : Ghosts O C) (w : Scenario) (n k : ℕ) (t t' : Traffic O C) (hand : Option C)
+pub next_packet : {S O C : Type 0} (picks : Picks S) (post : Ghosts O C) (w : Scenario) (n k : ℕ) (counted : List Meeting) (t t' : Traffic O C) (hand : Option C)
     (start : Offering S) (ps : List S) → t'.twins ≡ t.twins →
-    (is : IsRun picks post w (after_packet w n k) start ps t hand) → IsMail post w n (k + 1) is.carried t' → IsRunTo picks post w n (k + 1) start ps t'
-next_packet picks post w n k t t' hand start ps twins is mail =
+    (is : IsRun picks post w (after_packet w n k counted) start ps t hand) → IsMail post w n (k + 1) is.carried t'
+    → IsRunAhead picks post w n (k + 1) counted start ps t'
+next_packet picks post w n k counted t t' hand start ps twins is mail =
     let before = before_next k is.carried hand is.before in
     record {
       carried = is.carried;

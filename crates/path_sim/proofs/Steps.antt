@@ -1,10 +1,10 @@
 -- The packets of a step, and what stands after it.
-use Rattle.std.specs.Prelude.{◌≡◌, ℕ, ◌+◌, ◌<◌, ◌≤◌, true, false, cond, List, [], ◌++◌, map, take, drop, length, reverse, replicate, slice_set}
+use Rattle.std.specs.Prelude.{◌≡◌, ◌≢◌, ℕ, ◌+◌, ◌<◌, ◌≤◌, true, false, cond, List, [], ◌++◌, map, take, drop, length, reverse, replicate, slice_set}
 use Rattle.std.specs.Prelude.{slice_index_or, count_by, All}
-use Rattle.std.specs.List.{flat_map, enumerate_from}
+use Rattle.std.specs.List.{flat_map, enumerate_from, AllPairs}
 use Rattle.std.proofs.Common.{refl, sym, ap, ◌∙◌, subst, arith, append-nil, take_all, add-zero}
 use Rattle.std.proofs.Math.Seq.{take-append_seam}
-use Rattle.std.proofs.lemmas.List.{get_or_append_left, get_or-append-add, get_or-replicate, length-replicate, length-append, get_or_default}
+use Rattle.std.proofs.lemmas.List.{get_or_append_left, get_or-append-add, get_or-replicate, length-replicate, length-append, length-take, get_or-take, get_or_default}
 use Rattle.std.proofs.lemmas.List.Elements.{All-get_or, All-nil}
 use Rattle.lg_model.specs.declared.scenario.Fate.{Fate}
 use Rattle.lg_model.specs.declared.scenario.Step.{Step}
@@ -18,7 +18,7 @@ use Rattle.lg_model.specs.TwinsState.{TwinsState, AreTwins, with_end}
 use Rattle.lg_model.specs.Arriving.{packet_at, no_packet, is_release, held, deliveries, arrivals_until}
 use Rattle.lg_model.specs.Columns.{Column}
 use Rattle.lg_model.specs.Midway.{packets_to, arrived_to, held_to, AreDelivered}
-use Rattle.lg_model.proofs.Tracing.{packets_split, packets_from, packets_more, ended_more, ended_rises, length_packets}
+use Rattle.lg_model.proofs.Tracing.{packets_split, packets_from, packets_more, ended_more, ended_rises, length_packets, meetings_on, meetings_append}
 use Rattle.lg_model.proofs.Twinning.{twins_stay, twins_end, twins_end_all}
 use Rattle.lg_model.proofs.Arrivals.{arrived_start, arrived_end, held_start, held_end, arrivals_released, held_released, deliveries_append, deliveries_reverse}
 use Rattle.sketchlet_wire.specs.Packing.{IsPacked}
@@ -27,8 +27,9 @@ use Rattle.path_sim.specs.declared.sending.Sent.{Sent}
 use Rattle.path_sim.specs.declared.traffic.Traffic.{Traffic}
 use Rattle.path_sim.specs.Parts.{IsBefore, step_in}
 use Rattle.path_sim.specs.Holding.{AreHeld, IsInside}
-use Rattle.path_sim.specs.Sending.{IsPacketStep, IsSending}
-use Rattle.path_sim.specs.Running.{IsMail, IsRunTo}
+use Rattle.path_sim.specs.Sending.{IsPacketStep, IsSending, IsFit, packet_is}
+use Rattle.path_sim.specs.Running.{IsMail, IsRunTo, IsRunAhead}
+use Rattle.path_sim.proofs.Mailing.{mail_same}
 use Rattle.path_sim.proofs.Onward.{nothing_yet}
 
 pub prefix_is : (w : Scenario) (n : ℕ) → n ≤ length w.steps → packets_to w (length (packets_until w n)) ≡ packets_until w n
@@ -129,6 +130,47 @@ sends w k s is step number b low =
       places = step.places;
     }
 
+-- what the switches need to count the packets of a step
+pub record Counts (w : Scenario) (s : Sent) : Type 0 where
+  pub some : 1 ≤ s.burst
+  pub fits : IsFit (length w.switches) s
+  pub apart : AllPairs (λ x y. x ≢ y) (take s.reached s.flow.now.path)
+
+pub counts : (w : Scenario) (s : Sent) → IsScenario w → IsPacketStep w s → Counts w s
+counts w s is step =
+    let fits = step_fits w s.step_at (steps.Packet step.flow_at s.size s.delays.now s.burst s.fate) is step.inside step.step in
+    let its = flow_fits w step.flow_at is fits.flow in
+    let apart : AllPairs (λ x y. x ≢ y) s.flow.now.path = rw step.flow its.once in
+    record {
+      some = fits.some;
+      fits = record {
+        path = rw step.flow its.path;
+        few_hops = rw step.flow its.few_hops;
+        delays = rw step.flow fits.hops;
+        reached_is = step.reached_is;
+        reach = rw (step.reached_is, step.flow) fits.reach;
+      };
+      apart = λ i j d low high.
+          let long = length-take s.reached s.flow.now.path in
+          let here : j < s.reached = omega (arith, high, long) in
+          let inside : j < length s.flow.now.path = omega (arith, high, long) in
+          subst (λ (x : ℕ). x ≢ slice_index_or (take s.reached s.flow.now.path) j d) (sym (get_or-take s.reached s.flow.now.path i d (omega (arith, low, here))))
+          (subst (λ (y : ℕ). slice_index_or s.flow.now.path i d ≢ y) (sym (get_or-take s.reached s.flow.now.path j d here)) (apart i j d low inside));
+    }
+
+-- the meetings of a step come after those before it
+pub step_counted : (w : Scenario) (s : Sent) → IsPacketStep w s →
+    meetings_in (packets_until w (s.step_at + 1))
+    ≡ meetings_in (packets_until w s.step_at) ++ meetings_on (length (packets_until w s.step_at)) (replicate s.burst (packet_is s))
+step_counted w s step =
+    let n = s.step_at in
+    let p = packet_of w.flows n step.flow_at s.size s.delays.now s.fate in
+    let mine : packets_of w.flows (n, step_in w n) ≡ replicate s.burst p = rw step.step refl in
+    let same : p ≡ packet_is s = λ i. record { step_at = n; flow = sym step.flow i; size = s.size; delays = s.delays.now; fate = s.fate } in
+    ap meetings_in (packets_more w n step.inside ∙ ap (λ ps. packets_until w n ++ ps) mine)
+    ∙ meetings_append (packets_until w n) (replicate s.burst p)
+    ∙ ap (λ (q : Packet). meetings_in (packets_until w n) ++ meetings_on (length (packets_until w n)) (replicate s.burst q)) same
+
 -- a step that releases nothing leaves what came and what is held
 pub next_mail : {O C : Type 0} (post : Ghosts O C) (w : Scenario) (n k : ℕ) (cs : List model.Carry) (t t' : Traffic O C) → n < length w.steps
     → k ≡ length (packets_until w (n + 1)) → is_release (step_in w n) ≡ false →
@@ -179,10 +221,31 @@ module _ {S O C : Type 0} (picks : Picks S) (post : Ghosts O C) (w : Scenario) (
       omega arith
 
   -- before the step the twins are those of the first n steps
-  first_twins : (t : Traffic O C) (start : Offering S) (ps : List S) → k ≡ length (packets_until w n) → (is : IsRunTo picks post w n k start ps t)
+  pub first_twins : (t : Traffic O C) (start : Offering S) (ps : List S) → k ≡ length (packets_until w n) → (is : IsRunTo picks post w n k start ps t)
       → AreTwins w n (meetings_in (packets_until w n)) is.carried t.twins.items
   first_twins t start ps number is = subst (λ (xs : List Packet). AreTwins w n (meetings_in xs) is.carried t.twins.items)
       (prefix_at w n k (omega (arith, h)) number) is.twins
+
+  -- the switches have counted the packets of the step
+  pub counted_step : (t t' : Traffic O C) (old new : List TwinsState) (start : Offering S) (ps : List S) → k ≡ length (packets_until w n)
+      → old ≡ t.twins.items → t'.twins.items ≡ new → t'.post ≡ t.post → t'.held.items ≡ t.held.items →
+      ((cs : List model.Carry) → AreTwins w n (meetings_in (packets_until w n)) cs old → AreTwins w n (meetings_in (packets_until w (n + 1))) cs new) →
+      IsRunTo picks post w n k start ps t → IsRunAhead picks post w n k (meetings_in (packets_until w (n + 1))) start ps t'
+  counted_step t t' old new start ps number old_is new_is post_is held_is counts_all is = record {
+    carried = is.carried;
+    chosen = is.chosen;
+    before = is.before;
+    few = is.few;
+    twins = rw new_is (counts_all is.carried (rw old_is (first_twins t start ps number is)));
+    cargo_is = rw post_is is.cargo_is;
+    mail = mail_same post w n k is.carried t t' post_is held_is is.mail;
+  }
+
+  -- all of them have gone their way
+  pub all_sent : (t : Traffic O C) (start : Offering S) (ps : List S) (l : ℕ) → l ≡ length (packets_until w (n + 1)) →
+      IsRunAhead picks post w n l (meetings_in (packets_until w (n + 1))) start ps t → IsRunTo picks post w n l start ps t
+  all_sent t start ps l number is =
+      subst (λ (xs : List Packet). IsRunAhead picks post w n l (meetings_in xs) start ps t) (sym (prefix_at w (n + 1) l (omega (arith, h)) number)) is
 
   -- an epoch of one switch ends
   pub ended_one : (t t' : Traffic O C) (s : ℕ) (x : TwinsState) (start : Offering S) (ps : List S) → k ≡ length (packets_until w n)

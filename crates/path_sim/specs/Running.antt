@@ -26,17 +26,21 @@ pub record Progress : Type 0 where
   pub counted : List Meeting
   pub offered : List Meeting
 
--- Before the packet of number k within the step at n.
+-- Before the packet of number k within the step at n, with these meetings counted.
+abbrev pub before_counted : Scenario → (n k : ℕ) → List Meeting → Progress
+before_counted w n k counted = record { step = n; number = k; counted = counted; offered = meetings_in (packets_to w k) }
+
+-- The same where just the packets before it are counted.
 abbrev pub before_packet : Scenario → (n k : ℕ) → Progress
-before_packet w n k = record { step = n; number = k; counted = meetings_in (packets_to w k); offered = meetings_in (packets_to w k) }
+before_packet w n k = before_counted w n k (meetings_in (packets_to w k))
 
--- The packet of number k within the step at n was counted at that many hops, and offered at that many.
-abbrev pub at_hops : Scenario → (n k counted offered : ℕ) → Progress
-at_hops w n k counted offered = record { step = n; number = k; counted = meetings_to w k counted; offered = meetings_to w k offered }
+-- With these meetings counted, the packet of number k within the step at n was offered at that many hops.
+abbrev pub at_hops : Scenario → (n k : ℕ) → List Meeting → (offered : ℕ) → Progress
+at_hops w n k counted offered = record { step = n; number = k; counted = counted; offered = meetings_to w k offered }
 
--- The packet of number k within the step at n was counted and offered at all hops that it reaches.
-abbrev pub after_packet : Scenario → (n k : ℕ) → Progress
-after_packet w n k = record { step = n; number = k; counted = meetings_in (packets_to w (k + 1)); offered = meetings_in (packets_to w (k + 1)) }
+-- It was offered at all hops that it reaches.
+abbrev pub after_packet : Scenario → (n k : ℕ) → List Meeting → Progress
+after_packet w n k counted = record { step = n; number = k; counted = counted; offered = meetings_in (packets_to w (k + 1)) }
 
 -- For that carry list what came to the hosts and what is held is what the packets before number k within the step at n
 -- brought.
@@ -67,6 +71,10 @@ pub record IsRun {S O C : Type 0} (picks : Picks S) (post : Ghosts O C) (w : Sce
 -- No packet is under way.
 abbrev pub IsRunTo : {S O C : Type 0} → Picks S → Ghosts O C → Scenario → (n k : ℕ) → Offering S → List S → Traffic O C → Type 0
 IsRunTo picks post w n k start ps t = IsRun picks post w (before_packet w n k) start ps t None
+
+-- The same while these meetings are counted: those of all packets of a step are, before the first of them is sent.
+abbrev pub IsRunAhead : {S O C : Type 0} → Picks S → Ghosts O C → Scenario → (n k : ℕ) → List Meeting → Offering S → List S → Traffic O C → Type 0
+IsRunAhead picks post w n k counted start ps t = IsRun picks post w (before_counted w n k counted) start ps t None
 
 -- Nothing was posted yet.
 pub record IsFresh {O C : Type 0} (post : Ghosts O C) (w : Scenario) (o : O) : Type 0 where

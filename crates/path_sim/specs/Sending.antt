@@ -21,7 +21,6 @@ pub record IsVisit (w : Scenario) (m : Visit) : Type 0 where
   pub few_hops : m.hops ≤ MOST_HOPS
   pub switch : m.switch_at < length w.switches
   pub name : m.switch ≡ slice_index w.switches m.switch_at
-  pub places : m.places.now ≡ places_of w.shape m.key
   pub next : meetings_to w m.number m.hop ≡ meetings_to w m.number (m.hop - 1) ++ meeting_is m ∷ []
 
 -- Each of them is this packet.

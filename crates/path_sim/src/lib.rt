@@ -16,6 +16,7 @@
 mod arrivals;
 mod boxes;
 mod carry;
+mod counting;
 mod inbox;
 mod mail;
 mod meeting;

@@ -1,10 +1,7 @@
-//! A packet meets a switch.
-ghost use Rattle.std.specs.Prelude.{◌≡◌, ◌<◌, ◌-◌, None, length, IfOk};
-ghost use Rattle.lg_model.specs.Placing.{places_of};
-ghost use Rattle.lg_model.specs.Trace.{observation};
+//! A packet comes to a switch, which has counted it.
+ghost use Rattle.std.specs.Prelude.{◌≡◌, ◌<◌, ◌-◌, List, None, length, IfOk};
+ghost use Rattle.lg_model.specs.Trace.{Meeting};
 ghost use Rattle.lg_model.specs.Scenario.{ended};
-ghost use Rattle.lg_model.specs.TwinsState.{with_seen};
-ghost use Rattle.path_sim.specs.Parts.{meeting_is};
 ghost use Rattle.path_sim.specs.Sending.{IsVisit};
 ghost use Rattle.path_sim.specs.Running.{IsRun, at_hops};
 
@@ -12,15 +9,13 @@ use crate::carry::Carry;
 use crate::post::Post;
 use crate::traffic::Traffic;
 use column_pick::Picker;
-use epoch_freeze::Twins;
 use flow_key::FlowKey;
 use lg_base::Memory;
-use row_hash::{Places, Shape};
 use scenario_text::Scenario;
 
 /// A packet visits a switch, at a hop that it reaches.
 #[derive(Clone, Copy)]
-pub struct Visit<'a> {
+pub struct Visit {
     /// The number of the packet, from 0.
     pub number: u32,
     /// The position of its step.
@@ -35,22 +30,10 @@ pub struct Visit<'a> {
     pub switch: u16,
     /// The key of its flow.
     pub key: FlowKey,
-    /// The places of its flow in the rows.
-    pub places: &'a Places,
     /// Its size, in bytes.
     pub size: u16,
     /// Its delay at this hop, in microseconds.
     pub delay: u32,
-}
-
-// The switch counts the packet at its flow's places.
-fn count(shape: &Shape, twins: &mut Twins, m: &Visit)
-    requires shape { twins.old.shape ≡ shape.now }
-    requires places { m.now.places.now ≡ places_of shape.now m.now.key }
-    ensures { twins.new ≡ with_seen twins.old (observation (meeting_is m.now)) }
-{
-    let _wide = shape.width();
-    twins.see(m.places, m.size, m.delay);
 }
 
 // The picker of the switch is offered. If it gives a column, the packet carries that column from here on.
@@ -65,11 +48,11 @@ fn offer<P: Picker, O: Post + Drop>(
     requires pickers { length pickers.old ≡ length scenario.now.switches }
     requires epoch { 0 < ended scenario.now m.now.switch_at m.now.step_at }
     requires empty { cargo.old ≡ None }
-    requires run { (start : _) × IsRun P.picks O.Post.own scenario.now
-        (at_hops scenario.now m.now.step_at m.now.number m.now.hop (m.now.hop - 1)) start pickers.old traffic.old cargo.old }
-    ensures run { IfOk result (λ _. (start : _) → IsRun P.picks O.Post.own scenario.now
-        (at_hops scenario.now m.now.step_at m.now.number m.now.hop (m.now.hop - 1)) start pickers.old traffic.old cargo.old
-        → IsRun P.picks O.Post.own scenario.now (at_hops scenario.now m.now.step_at m.now.number m.now.hop m.now.hop) start
+    requires run { (start : _) × (counted : List Meeting) × IsRun P.picks O.Post.own scenario.now
+        (at_hops scenario.now m.now.step_at m.now.number counted (m.now.hop - 1)) start pickers.old traffic.old cargo.old }
+    ensures run { IfOk result (λ _. (start : _) (counted : List Meeting) → IsRun P.picks O.Post.own scenario.now
+        (at_hops scenario.now m.now.step_at m.now.number counted (m.now.hop - 1)) start pickers.old traffic.old cargo.old
+        → IsRun P.picks O.Post.own scenario.now (at_hops scenario.now m.now.step_at m.now.number counted m.now.hop) start
         pickers.new traffic.new cargo.new) }
 {
     let at = m.switch_at as usize;
@@ -95,8 +78,8 @@ fn offer<P: Picker, O: Post + Drop>(
     }
 }
 
-/// The switch counts the packet. If the packet carries nothing and the switch has a frozen sketch, its picker is offered
-/// then. Memory where there is none for a column that the packet takes.
+/// If the switch has a frozen sketch, its picker is offered; the packet carries nothing so far. Memory where there is none
+/// for a column that the packet takes.
 pub fn meet<P: Picker, O: Post + Drop>(
     scenario: &Scenario,
     m: &Visit,
@@ -106,19 +89,15 @@ pub fn meet<P: Picker, O: Post + Drop>(
 ) -> Result<(), Memory>
     requires visit { IsVisit scenario.now m.now }
     requires pickers { length pickers.old ≡ length scenario.now.switches }
-    requires run { (start : _) × IsRun P.picks O.Post.own scenario.now
-        (at_hops scenario.now m.now.step_at m.now.number (m.now.hop - 1) (m.now.hop - 1)) start pickers.old traffic.old cargo.old }
-    ensures run { IfOk result (λ _. (start : _) → IsRun P.picks O.Post.own scenario.now
-        (at_hops scenario.now m.now.step_at m.now.number (m.now.hop - 1) (m.now.hop - 1)) start pickers.old traffic.old cargo.old
-        → IsRun P.picks O.Post.own scenario.now (at_hops scenario.now m.now.step_at m.now.number m.now.hop m.now.hop) start
+    requires empty { cargo.old ≡ None }
+    requires run { (start : _) × (counted : List Meeting) × IsRun P.picks O.Post.own scenario.now
+        (at_hops scenario.now m.now.step_at m.now.number counted (m.now.hop - 1)) start pickers.old traffic.old cargo.old }
+    ensures run { IfOk result (λ _. (start : _) (counted : List Meeting) → IsRun P.picks O.Post.own scenario.now
+        (at_hops scenario.now m.now.step_at m.now.number counted (m.now.hop - 1)) start pickers.old traffic.old cargo.old
+        → IsRun P.picks O.Post.own scenario.now (at_hops scenario.now m.now.step_at m.now.number counted m.now.hop) start
         pickers.new traffic.new cargo.new) }
 {
-    let twin = &mut traffic.twins[m.switch_at as usize];
-    count(&scenario.shape(), twin, m);
-    if cargo.is_some() {
-        return Ok(());
-    }
-    if twin.epoch() == 0 {
+    if traffic.twins[m.switch_at as usize].epoch() == 0 {
         return Ok(());
     }
     offer(scenario, m, cargo, pickers, traffic)

@@ -1,8 +1,9 @@
 //! Packets go their way.
-ghost use Rattle.std.specs.Prelude.{◌≡◌, ℕ, ◌<◌, ◌≤◌, ◌+◌, length, IfOk};
+ghost use Rattle.std.specs.Prelude.{◌≡◌, ℕ, ◌<◌, ◌≤◌, ◌+◌, List, length, IfOk};
 ghost use Rattle.lg_model.specs.declared.limits.TheConstants.{MOST_PACKETS};
+ghost use Rattle.lg_model.specs.Trace.{Meeting};
 ghost use Rattle.path_sim.specs.Sending.{IsSending};
-ghost use Rattle.path_sim.specs.Running.{IsRun, IsRunTo, after_packet};
+ghost use Rattle.path_sim.specs.Running.{IsRun, IsRunAhead, after_packet};
 
 use crate::mail::settle;
 use crate::meeting::{Visit, meet};
@@ -35,7 +36,7 @@ pub struct Sent<'a> {
     pub reached: u8,
 }
 
-// The packet of that number goes from hop to hop. The answer is what it carries in the end.
+// The packet of that number goes from hop to hop until it carries something. The answer is what it carries in the end.
 fn send<P: Picker, O: Post + Drop>(
     scenario: &Scenario,
     number: u32,
@@ -45,16 +46,20 @@ fn send<P: Picker, O: Post + Drop>(
 ) -> Result<Option<O::Cargo>, Memory>
     requires sent { IsSending scenario.now number sent.now }
     requires pickers { length pickers.old ≡ length scenario.now.switches }
-    requires run { (start : _) × IsRunTo P.picks O.Post.own scenario.now sent.now.step_at number start pickers.old traffic.old }
-    ensures run { IfOk result (λ cargo. (start : _) → IsRunTo P.picks O.Post.own scenario.now sent.now.step_at number start
-        pickers.old traffic.old
-        → IsRun P.picks O.Post.own scenario.now (after_packet scenario.now sent.now.step_at number) start pickers.new traffic.new cargo) }
+    requires run { (start : _) × (counted : List Meeting) × IsRunAhead P.picks O.Post.own scenario.now sent.now.step_at number counted start
+        pickers.old traffic.old }
+    ensures run { IfOk result (λ cargo. (start : _) (counted : List Meeting) → IsRunAhead P.picks O.Post.own scenario.now sent.now.step_at number
+        counted start pickers.old traffic.old
+        → IsRun P.picks O.Post.own scenario.now (after_packet scenario.now sent.now.step_at number counted) start pickers.new traffic.new cargo) }
 {
     let hops = sent.flow.path.items();
     let delays = sent.delays.items();
     let names = scenario.switches();
     let mut cargo = None;
     for k in 0..sent.reached {
+        if cargo.is_some() {
+            return Ok(cargo);
+        }
         let at = usize::from(k);
         let m = Visit {
             number,
@@ -64,7 +69,6 @@ fn send<P: Picker, O: Post + Drop>(
             switch_at: hops[at],
             switch: names[usize::from(hops[at])],
             key: sent.flow.key,
-            places: sent.places,
             size: sent.size,
             delay: delays[at],
         };
@@ -84,16 +88,18 @@ pub fn send_one<P: Picker, O: Post + Drop>(
 ) -> Result<(), Memory>
     requires sent { IsSending scenario.now number sent.now }
     requires pickers { length pickers.old ≡ length scenario.now.switches }
-    requires run { (start : _) × IsRunTo P.picks O.Post.own scenario.now sent.now.step_at number start pickers.old traffic.old }
-    ensures run { IfOk result (λ _. (start : _) → IsRunTo P.picks O.Post.own scenario.now sent.now.step_at number start pickers.old
-        traffic.old
-        → IsRunTo P.picks O.Post.own scenario.now sent.now.step_at (number + 1) start pickers.new traffic.new) }
+    requires run { (start : _) × (counted : List Meeting) × IsRunAhead P.picks O.Post.own scenario.now sent.now.step_at number counted start
+        pickers.old traffic.old }
+    ensures run { IfOk result (λ _. (start : _) (counted : List Meeting) → IsRunAhead P.picks O.Post.own scenario.now sent.now.step_at number
+        counted start pickers.old traffic.old
+        → IsRunAhead P.picks O.Post.own scenario.now sent.now.step_at (number + 1) counted start pickers.new traffic.new) }
 {
     let cargo = send(scenario, number, sent, pickers, traffic)?;
     settle(scenario, number, sent, cargo, traffic)
 }
 
-/// The packets of a step go their way, one after the other. `number` is the number of the first.
+/// The packets of a step, which the switches have counted, go their way, one after the other. `number` is the number of the
+/// first.
 pub fn send_all<P: Picker, O: Post + Drop>(
     scenario: &Scenario,
     number: u32,
@@ -104,10 +110,11 @@ pub fn send_all<P: Picker, O: Post + Drop>(
     requires few { number + sent.now.burst ≤ MOST_PACKETS }
     requires sent { (b : ℕ) → b < sent.now.burst → IsSending scenario.now (number + b) sent.now }
     requires pickers { length pickers.old ≡ length scenario.now.switches }
-    requires run { (start : _) × IsRunTo P.picks O.Post.own scenario.now sent.now.step_at number start pickers.old traffic.old }
-    ensures run { IfOk result (λ _. (start : _) → IsRunTo P.picks O.Post.own scenario.now sent.now.step_at number start pickers.old
-        traffic.old
-        → IsRunTo P.picks O.Post.own scenario.now sent.now.step_at (number + sent.now.burst) start pickers.new traffic.new) }
+    requires run { (start : _) × (counted : List Meeting) × IsRunAhead P.picks O.Post.own scenario.now sent.now.step_at number counted start
+        pickers.old traffic.old }
+    ensures run { IfOk result (λ _. (start : _) (counted : List Meeting) → IsRunAhead P.picks O.Post.own scenario.now sent.now.step_at number
+        counted start pickers.old traffic.old
+        → IsRunAhead P.picks O.Post.own scenario.now sent.now.step_at (number + sent.now.burst) counted start pickers.new traffic.new) }
 {
     for b in 0..sent.burst {
         send_one(scenario, number + b, sent, pickers, traffic)?;

@@ -8,6 +8,7 @@ ghost use Rattle.path_sim.specs.Parts.{flow_places};
 ghost use Rattle.path_sim.specs.Sending.{IsPacketStep};
 ghost use Rattle.path_sim.specs.Running.{IsRunTo};
 
+use crate::counting::count_step;
 use crate::mail::release;
 use crate::post::Post;
 use crate::sending::{Sent, send_all};
@@ -30,7 +31,7 @@ fn end_all(twins: &mut [Twins])
     }
 }
 
-// A step that sends packets. `number` is the number of the first. Memory where there is none for what they carry or bring.
+// A step that sends packets: the switches count all of them, and they go their way. `number` is the number of the first. Memory where there is none for what they carry or bring.
 fn packet_step<P: Picker, O: Post + Drop>(
     scenario: &Scenario,
     number: u32,
@@ -49,6 +50,7 @@ fn packet_step<P: Picker, O: Post + Drop>(
         → IsRunTo P.picks O.Post.own scenario.now (sent.now.step_at + 1) (number + sent.now.burst) start pickers.new traffic.new) }
 {
     let _fits = scenario.flows();
+    count_step(scenario, &mut traffic.twins, sent);
     send_all(scenario, number, sent, pickers, traffic)
 }
 

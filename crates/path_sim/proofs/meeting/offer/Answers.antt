@@ -1,4 +1,5 @@
-use Rattle.std.proofs.Common.{◌<◌, Some, None, refl, sym, ap, subst, arith, length, slice_index_or, slice_set}
+use Rattle.lg_model.specs.Trace.{Meeting}
+use Rattle.std.proofs.Common.{List, ◌<◌, Some, None, refl, sym, ap, subst, arith, length, slice_index_or, slice_set}
 use Rattle.std.proofs.lemmas.Option.{slice_get-get_or}
 use Rattle.lg_model.specs.TwinsState.{TwinsState}
 use Rattle.path_sim.specs.Running.{IsRun, at_hops}
@@ -13,7 +14,8 @@ returns-in-None g c =
     let t = c.args.traffic.now in
     let inside : m.switch_at < length ps = omega (arith, c.requires.pickers, c.requires.visit.switch) in
     let p = slice_index_or ps m.switch_at c.index-pickers-at.result in
-    let a : Answers g.P.Picker.picks g.O.Post w m c.requires.visit t ps c.index-twin.result.now p c.pick.new.self None = record {
+    let a : (counted : List Meeting) → Answers g.P.Picker.picks g.O.Post w m c.requires.visit counted t ps c.index-twin.result.now p c.pick.new.self None =
+    λ counted. record {
       found = c.index-twin.ensures;
       some = c.requires.epoch;
       its = slice_get-get_or ps m.switch_at c.index-pickers-at.result inside;
@@ -21,10 +23,10 @@ returns-in-None g c =
       lawful = c.in-None.ensures.lawful;
     } in
     record {
-      run = λ start is. subst (IsRun g.P.Picker.picks g.O.Post w (at_hops w m.step_at m.number m.hop m.hop) start
+      run = λ start counted is. subst (IsRun g.P.Picker.picks g.O.Post w (at_hops w m.step_at m.number counted m.hop) start
           (slice_set ps m.switch_at c.pick.new.self) t) (sym c.requires.empty)
-          (declined g.P.Picker.picks g.O.Post w m c.requires.visit t ps c.index-twin.result.now p c.pick.new.self a start
-          (emptied g.P.Picker.picks g.O.Post w m c.requires.visit t ps c.args.cargo.now c.requires.empty start is));
+          (declined g.P.Picker.picks g.O.Post w m c.requires.visit counted t ps c.index-twin.result.now p c.pick.new.self (a counted) start
+          (emptied g.P.Picker.picks g.O.Post w m c.requires.visit counted t ps c.args.cargo.now c.requires.empty start is));
     }
 
 pub returns-in_ok-taken-in-Some : goal.returns-in_ok-taken-in-Some
@@ -35,7 +37,9 @@ returns-in_ok-taken-in-Some g c =
     let t = c.args.traffic.now in
     let inside : m.switch_at < length ps = omega (arith, c.requires.pickers, c.requires.visit.switch) in
     let p = slice_index_or ps m.switch_at c.index-pickers-at.result in
-    let a : Answers g.P.Picker.picks g.O.Post w m c.requires.visit t ps c.index-twin.result.now p c.pick.new.self (Some c.in-Some.index) = record {
+    let a : (counted : List Meeting) →
+    Answers g.P.Picker.picks g.O.Post w m c.requires.visit counted t ps c.index-twin.result.now p c.pick.new.self (Some c.in-Some.index) =
+    λ counted. record {
       found = c.index-twin.ensures;
       some = c.requires.epoch;
       its = slice_get-get_or ps m.switch_at c.index-pickers-at.result inside;
@@ -44,9 +48,9 @@ returns-in_ok-taken-in-Some g c =
     } in
     let step = c.in_ok-taken-in-Some.ensures in
     record {
-      run = λ start is. taken g.P.Picker.picks g.O.Post w m c.requires.visit t _ ps c.index-twin.result.now p c.pick.new.self c.in-Some.index
-          c.epoch.result c.in_ok-taken-in-Some.taken a c.epoch.ensures
+      run = λ start counted is. taken g.P.Picker.picks g.O.Post w m c.requires.visit counted t _ ps c.index-twin.result.now p c.pick.new.self c.in-Some.index
+          c.epoch.result c.in_ok-taken-in-Some.taken (a counted) c.epoch.ensures
           step.noted step.taken step.stays step.inboxes c.index_mut-twin.result.now c.index_mut-twin.ensures.value
           (ap (λ (x : TwinsState). slice_set t.twins.items m.switch_at x) c.put_out.ensures) refl start
-          (emptied g.P.Picker.picks g.O.Post w m c.requires.visit t ps c.args.cargo.now c.requires.empty start is);
+          (emptied g.P.Picker.picks g.O.Post w m c.requires.visit counted t ps c.args.cargo.now c.requires.empty start is);
     }

@@ -1,7 +1,9 @@
-use Rattle.std.specs.Prelude.{◌+◌}
-use Rattle.path_sim.specs.Running.{IsRunTo}
+use Rattle.std.specs.Prelude.{◌+◌, List}
+use Rattle.lg_model.specs.Trace.{Meeting}
+use Rattle.path_sim.specs.Running.{IsRunAhead}
 use Rattle.path_sim.proofs.sending.send_all.Given as goal
 
 abbrev pub invariant-loop-b : goal.invariant-loop-b
-invariant-loop-b g l = (start : _) → IsRunTo g.P.Picker.picks g.O.Post l.scenario l.sent.step_at l.number start l.fn.pickers l.fn.traffic
-    → IsRunTo g.P.Picker.picks g.O.Post l.scenario l.sent.step_at (l.number + l.b) start l.pickers l.traffic
+invariant-loop-b g l = (start : _) (counted : List Meeting) →
+    IsRunAhead g.P.Picker.picks g.O.Post l.scenario l.sent.step_at l.number counted start l.fn.pickers l.fn.traffic
+    → IsRunAhead g.P.Picker.picks g.O.Post l.scenario l.sent.step_at (l.number + l.b) counted start l.pickers l.traffic
